@@ -1,0 +1,4 @@
+pub mod PlaceLemmas
+pub mod Matching
+pub mod Roots
+pub mod Lying

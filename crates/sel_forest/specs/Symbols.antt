@@ -1,0 +1,23 @@
+-- Which bytes names and symbols are made of.
+use Rattle.std.specs.Prelude.{◌≡◌, ℕ, Bool, true, List, [], ◌∷◌, ◌==◌, ◌||◌}
+use Rattle.std.specs.List.{list_all}
+use Rattle.std.specs.Char.{is_ascii_digit, is_ascii_alphabetic}
+
+-- a letter or _
+abbrev pub is_letter : ℕ → Bool
+is_letter b = is_ascii_alphabetic b || (b == 95)
+
+abbrev pub is_name_byte : ℕ → Bool
+is_name_byte b = is_letter b || is_ascii_digit b
+
+-- a letter, _, ., $ or @
+abbrev pub is_symbol_start : ℕ → Bool
+is_symbol_start b = is_letter b || (b == 46) || (b == 36) || (b == 64)
+
+abbrev pub is_symbol_byte : ℕ → Bool
+is_symbol_byte b = is_symbol_start b || is_ascii_digit b
+
+-- a letter, _, ., $ or @, and then these and digits
+abbrev pub IsSymbol : List ℕ → Type 0
+IsSymbol [] = ⊥
+IsSymbol (b ∷ bytes) = (is_symbol_start b ≡ true) × (list_all is_symbol_byte bytes ≡ true)

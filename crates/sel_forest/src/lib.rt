@@ -1,0 +1,13 @@
+//! Forests of trees in postorder, and covers.
+#![tactic(auto)]
+
+mod forest;
+pub mod laws;
+pub mod limits;
+mod refusal;
+mod walk;
+
+pub use forest::{Cover, Forest, Node, Tree};
+pub use refusal::{ForestFault, ForestRefusal};
+pub use sel_grammar::Attribute;
+pub use walk::{Goal, fits_at, node_at, push_goals, rule_of};

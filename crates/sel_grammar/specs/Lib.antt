@@ -1,0 +1,9 @@
+pub mod Costs
+pub mod PlainTrees
+pub mod Fits
+pub mod Derivations
+pub mod Best
+pub mod Chains
+pub mod Laws
+pub mod Expansions
+pub mod Limits

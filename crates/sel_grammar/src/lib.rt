@@ -1,0 +1,11 @@
+//! Grammars: operators, nonterminals, and rules with patterns.
+#![tactic(auto)]
+
+mod grammar;
+pub mod laws;
+pub mod limits;
+mod refusal;
+
+pub use grammar::{Attribute, Grammar, Operator, Part, Pattern, Rule, RuleCost, Template};
+pub use refusal::{GrammarFault, GrammarRefusal};
+pub use sel_base::{Pair, Range};

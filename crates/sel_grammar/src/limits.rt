@@ -1,0 +1,16 @@
+//! The limits of a grammar, and the kinds of its faults.
+
+/// How many operators a grammar may have.
+pub const MOST_OPERATORS: usize = 255;
+
+/// How many nonterminals a grammar may have.
+pub const MOST_NONTERMINALS: usize = 64;
+
+/// How many rules a grammar may have.
+pub const MOST_RULES: usize = 1_023;
+
+/// The greatest number of a rule's cost.
+pub const GREATEST_COST: u32 = 65_535;
+
+/// The text has no form that this version reads.
+pub const UNBUILT: u8 = 15;
