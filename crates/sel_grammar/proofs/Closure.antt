@@ -8,9 +8,9 @@ use Rattle.sel_grammar.specs.PlainTrees.{PlainTree, attribute_of}
 use Rattle.sel_grammar.specs.Fits.{leaves, fits, rule_at, subtrees, in_range}
 use Rattle.sel_grammar.specs.Derivations.{Derivation, Deriv, Derivations, no_more, more, Derives, DeriveAll, rule_cost, cost, costs, list, lists}
 use Rattle.sel_grammar.specs.Best.{HasNone}
-use Rattle.sel_grammar.proofs.Order.{IsBefore}
+use Rattle.sel_grammar.specs.Firsts.{IsBefore, Leads, LeadAll, IsFirst, AllFirst, IsKept}
 use Rattle.sel_grammar.proofs.CostLaws.{right_cheaper, same_sums, cheaper_trans, cheaper_same, same_cheaper, sum_none}
-use Rattle.sel_grammar.proofs.Firsts.{Leads, LeadAll, IsFirst, AllFirst, DeriveAll-first, LeadAll-first, Leads-kids, lead_more, no_dearer}
+use Rattle.sel_grammar.proofs.Firsts.{DeriveAll-first, LeadAll-first, Leads-kids, lead_more, no_dearer}
 
 -- the number of the root's rule
 abbrev pub root : Derivation → ℕ
@@ -126,16 +126,6 @@ settle g d r rule es c at later kids same = go later kids
     go (inl h) (inr f) = inr (inl (cheaper_trans _ _ _ h (right_cheaper (price rule) (rule_cost (rule_at g r)) c (costs g es) priced f)))
     go (inr h) (inl f) = tied (le_split _ _ h.1) h.0 f
     go (inr h) (inr f) = inr (inl (same_cheaper _ _ _ h.0 (right_cheaper (price rule) (rule_cost (rule_at g r)) c (costs g es) priced f)))
-
--- what an entry stands for: the best derivation, by its rule and its best kids
-pub record IsKept (g : Grammar) (t : PlainTree) (n : ℕ) (a : Cost) (r : ℕ) (ds : Derivations) : Type 0 where
-  pub first : IsFirst g (Deriv r ds) n t
-  pub priced : a ≡ cost g (Deriv r ds)
-  pub rule : Rule
-  pub numbered : rule_at g r ≡ Some rule
-  pub subtrees : List PlainTree
-  pub fitting : fits rule t ≡ Some subtrees
-  pub firsts : AllFirst g ds (leaves rule.pattern) subtrees
 
 same_rule : (g : Grammar) (r s : ℕ) (rule rule' : Rule) → rule_at g r ≡ Some rule → rule_at g s ≡ Some rule' → r ≡ s → rule ≡ rule'
 same_rule g r s rule rule' h k e = some_same (sym h ∙ ap (rule_at g) e ∙ k)

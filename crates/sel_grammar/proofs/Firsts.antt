@@ -6,24 +6,9 @@ use Rattle.sel_grammar.specs.PlainTrees.{PlainTree}
 use Rattle.sel_grammar.specs.Fits.{rule_at}
 use Rattle.sel_grammar.specs.Derivations.{Derivation, Deriv, Derivations, no_more, more, Derives, DeriveAll, rule_cost, cost, costs, list, lists}
 use Rattle.sel_grammar.specs.Best.{IsBest, Beats}
-use Rattle.sel_grammar.proofs.Order.{IsBefore, IsLexLess-before, IsBefore-append, IsBefore-behind}
+use Rattle.sel_grammar.specs.Firsts.{IsBefore, IsLesser, Leads, LeadAll, IsFirst, AllFirst}
+use Rattle.sel_grammar.proofs.Order.{IsLexLess-before, IsBefore-append, IsBefore-behind}
 use Rattle.sel_grammar.proofs.CostLaws.{both_cheaper, left_cheaper, right_cheaper, same_sums}
-
--- of two costs and two lists: the first pair is lesser
-abbrev pub IsLesser : Cost → List ℕ → Cost → List ℕ → Type 0
-IsLesser a xs b ys = IsCheaper a b ⊎ ((a ≡ b) × IsBefore xs ys)
-
--- e is d, or d beats it
-abbrev pub Leads : Grammar → Derivation → Derivation → Type 0
-Leads g d e = (e ≡ d) ⊎ IsLesser (cost g d) (list d) (cost g e) (list e)
-
-abbrev pub LeadAll : Grammar → Derivations → Derivations → Type 0
-LeadAll g ds es = (es ≡ ds) ⊎ IsLesser (costs g ds) (lists ds) (costs g es) (lists es)
-
--- as `IsBest`, where lists differ at a place
-pub record IsFirst (g : Grammar) (d : Derivation) (n : ℕ) (t : PlainTree) : Type 0 where
-  pub derives : Derives g d n t
-  pub leads : (e : Derivation) → Derives g e n t → Leads g d e
 
 pub IsBest-first : (g : Grammar) (d : Derivation) (n : ℕ) (t : PlainTree) → IsFirst g d n t → IsBest g d n t
 IsBest-first g d n t f = record { derives = f.derives; beats = λ e h. go e (f.leads e h) }
@@ -32,11 +17,6 @@ IsBest-first g d n t f = record { derives = f.derives; beats = λ e h. go e (f.l
     go e (inl h) = inl h
     go e (inr (inl h)) = inr (inl h)
     go e (inr (inr h)) = inr (inr (h.0, IsLexLess-before (list d) (list e) h.1))
-
-abbrev pub AllFirst : Grammar → Derivations → List ℕ → List PlainTree → Type 0
-AllFirst g no_more [] [] = Unit {0}
-AllFirst g (more d ds) (n ∷ ns) (t ∷ ts) = IsFirst g d n t × AllFirst g ds ns ts
-AllFirst g _ _ _ = ⊥
 
 pub DeriveAll-first : (g : Grammar) (ds : Derivations) (ns : List ℕ) (ts : List PlainTree) → AllFirst g ds ns ts → DeriveAll g ds ns ts
 DeriveAll-first g no_more [] [] f = tt

@@ -5,7 +5,7 @@ use Rattle.sel_grammar.specs.Costs.{◌⊕◌}
 use Rattle.sel_grammar.specs.PlainTrees.{PlainTree}
 use Rattle.sel_grammar.specs.Derivations.{Derivations, no_more, more, DeriveAll, cost, costs, list, lists}
 use Rattle.sel_grammar.proofs.CostLaws.{sum_before, sum_assoc}
-use Rattle.sel_grammar.proofs.Firsts.{AllFirst}
+use Rattle.sel_grammar.specs.Firsts.{AllFirst}
 
 abbrev pub both_kids : Derivations → Derivations → Derivations
 both_kids no_more es = es

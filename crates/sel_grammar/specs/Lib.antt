@@ -3,6 +3,7 @@ pub mod PlainTrees
 pub mod Fits
 pub mod Derivations
 pub mod Best
+pub mod Firsts
 pub mod Chains
 pub mod Laws
 pub mod Expansions
