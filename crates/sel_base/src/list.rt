@@ -27,6 +27,7 @@ impl<T> Model for List<T> {
 }
 
 impl<T> List<T> {
+    /// The empty list. It asks for no memory.
     pub fn new(alloc: Global) -> List<T>
         ensures { result ≡ [] }
     {
@@ -35,12 +36,14 @@ impl<T> List<T> {
         }
     }
 
+    /// The items of a `Vec`, with no copy.
     pub fn from_vec(items: Vec<T>) -> List<T>
         ensures { result ≡ items.items }
     {
         List { items }
     }
 
+    /// The items as a `Vec`, with no copy.
     pub fn into_vec(self) -> Vec<T>
         ensures { result.items ≡ self }
     {
@@ -60,6 +63,7 @@ impl<T> List<T> {
         self.items.len()
     }
 
+    /// The item at a place from 0, where there is one.
     pub fn get(&self, at: usize) -> Option<&T>
         ensures value { option_copied result ≡ slice_get self.now at }
         ensures within { OnSome result (at < length self.now) }
@@ -77,6 +81,7 @@ impl<T: Drop> List<T> {
         self.items[at] = item;
     }
 
+    /// Puts the item behind the others.
     pub fn push(&mut self, item: T) -> Result<(), NoMemory>
         ensures ok { OnOk result (self.new ≡ self.old ++ item ∷ []) }
         ensures err { OnErr result (self.new ≡ self.old) }
