@@ -60,30 +60,36 @@ pub record IsClosed (g : Grammar) (t : PlainTree) (row : Row) (rank : ℕ → �
   -- chain rules of the row lead down
   pub falls : (n : ℕ) (a : Cost) (r : ℕ) (rule : Rule) (m : ℕ) → row n ≡ Some (a, r) → rule_at g r ≡ Some rule → IsChain t rule m → rank m < rank n
 
-chain_or_not : (p : Pattern) → ((m : ℕ) × (p ≡ Leaf m)) ⊎ ((m : ℕ) → p ≡ Leaf m → ⊥)
+pub chain_or_not : (p : Pattern) → ((m : ℕ) × (p ≡ Leaf m)) ⊎ ((m : ℕ) → p ≡ Leaf m → ⊥)
 chain_or_not (Leaf m) = inl (m, refl)
 chain_or_not (Nullary op) = inr (λ m h. cc)
 chain_or_not (Unary' op s p) = inr (λ m h. cc)
 chain_or_not (Binary' op s p s' q) = inr (λ m h. cc)
 
 -- induction over derivations
-abbrev EachKid : (Derivation → Type 0) → Derivations → Type 0
+abbrev pub EachKid : (Derivation → Type 0) → Derivations → Type 0
 EachKid P no_more = Unit {0}
 EachKid P (more d ds) = P d × EachKid P ds
 
 module _ (P : Derivation → Type 0) (step : (r : ℕ) (ds : Derivations) → EachKid P ds → P (Deriv r ds)) where
   mutual
-    by_kids : (d : Derivation) → P d
+    pub by_kids : (d : Derivation) → P d
     by_kids (Deriv r ds) = step r ds (each_kid ds)
 
     each_kid : (ds : Derivations) → EachKid P ds
     each_kid no_more = tt
     each_kid (more d ds) = (by_kids d, each_kid ds)
 
-some_same : {A : Type 0} {x y : A} → Some x ≡ Some y → x ≡ y
+-- the only kid of a chain rule
+pub kid_of : (g : Grammar) (t : PlainTree) (P : Derivation → Type 0) (es : Derivations) (m : ℕ) → DeriveAll g es (m ∷ []) (t ∷ []) → EachKid P es → (e : Derivation) × (es ≡ more e no_more) × Derives g e m t × P e
+kid_of g t P no_more m h p = absurd h
+kid_of g t P (more e no_more) m h p = (e, refl, h.0, p.0)
+kid_of g t P (more e (more e' es)) m h p = absurd h.1
+
+pub some_same : {A : Type 0} {x y : A} → Some x ≡ Some y → x ≡ y
 some_same h = cc
 
-some_none : {A : Type 0} {x : A} → Some x ≡ None → ⊥
+pub some_none : {A : Type 0} {x : A} → Some x ≡ None → ⊥
 some_none h = cc
 
 abbrev pub entry : Cost → ℕ → Option (Cost × ℕ)
@@ -98,7 +104,7 @@ no_later_same a b r s c q h k l = subst (λ x. NoLater x s c q) h (subst (λ x. 
 le_split : (a b : ℕ) → a ≤ b → (a < b) ⊎ (a ≡ b)
 le_split a b h = grind arith
 
-fits_chain : (rule : Rule) (t : PlainTree) (m : ℕ) (ts : List PlainTree) → rule.pattern ≡ Leaf m → fits rule t ≡ Some ts → ts ≡ t ∷ []
+pub fits_chain : (rule : Rule) (t : PlainTree) (m : ℕ) (ts : List PlainTree) → rule.pattern ≡ Leaf m → fits rule t ≡ Some ts → ts ≡ t ∷ []
 fits_chain rule t m ts p h = go _ (subst (λ q. (if in_range rule.range (attribute_of t) then subtrees q t else None) ≡ Some ts) p h)
   where
     go : (b : Bool) → (if b then Some (t ∷ []) else None) ≡ Some ts → ts ≡ t ∷ []
@@ -127,7 +133,7 @@ settle g d r rule es c at later kids same = go later kids
     go (inr h) (inl f) = tied (le_split _ _ h.1) h.0 f
     go (inr h) (inr f) = inr (inl (same_cheaper _ _ _ h.0 (right_cheaper (price rule) (rule_cost (rule_at g r)) c (costs g es) priced f)))
 
-same_rule : (g : Grammar) (r s : ℕ) (rule rule' : Rule) → rule_at g r ≡ Some rule → rule_at g s ≡ Some rule' → r ≡ s → rule ≡ rule'
+pub same_rule : (g : Grammar) (r s : ℕ) (rule rule' : Rule) → rule_at g r ≡ Some rule → rule_at g s ≡ Some rule' → r ≡ s → rule ≡ rule'
 same_rule g r s rule rule' h k e = some_same (sym h ∙ ap (rule_at g) e ∙ k)
 
 kid_cost : (a b : Cost) → (a ⊕ no_cost ≡ b) ⊎ IsCheaper (a ⊕ no_cost) b → (a ≡ b) ⊎ IsCheaper a b
@@ -181,11 +187,6 @@ module _ (g : Grammar) (t : PlainTree) (row : Row) (rank : ℕ → ℕ) (k : IsC
   abbrev IsLed : Derivation → Type 0
   IsLed e = (n : ℕ) → Derives g e n t → ((a : Cost) × (s : ℕ) × (row n ≡ Some (a, s))) × ((d : Derivation) → Told d n → Leads g d e)
 
-  kid_of : (P : Derivation → Type 0) (es : Derivations) (m : ℕ) → DeriveAll g es (m ∷ []) (t ∷ []) → EachKid P es → (e : Derivation) × (es ≡ more e no_more) × Derives g e m t × P e
-  kid_of P no_more m h p = absurd h
-  kid_of P (more e no_more) m h p = (e, refl, h.0, p.0)
-  kid_of P (more e (more e' es)) m h p = absurd h.1
-
   -- an entry that is no later than an offer, at the nonterminal of a derivation
   led_by : (r n : ℕ) (rule : Rule) (es : Derivations) (c : Cost) → rule_at g r ≡ Some rule → rule.left ≡ n → (c ≡ costs g es) ⊎ IsCheaper c (costs g es)
       → ((a : Cost) × (s : ℕ) × (row rule.left ≡ Some (a, s)) × NoLater a s (price rule ⊕ c) r)
@@ -215,7 +216,7 @@ module _ (g : Grammar) (t : PlainTree) (row : Row) (rank : ℕ → ℕ) (k : IsC
 
   led_chain : (r : ℕ) (es : Derivations) → EachKid IsLed es → (n : ℕ) (rule : Rule) (m : ℕ) → rule_at g r ≡ Some rule → rule.left ≡ n → IsChain t rule m → DeriveAll g es (m ∷ []) (t ∷ [])
       → ((a : Cost) × (s : ℕ) × (row n ≡ Some (a, s))) × ((d : Derivation) → Told d n → Leads g d (Deriv r es))
-  led_chain r es each n rule m at left ch all = go (kid_of IsLed es m all each)
+  led_chain r es each n rule m at left ch all = go (kid_of g t IsLed es m all each)
     where
       with_kid : (e : Derivation) → es ≡ more e no_more → ((a : Cost) × (s : ℕ) × (row m ≡ Some (a, s))) × ((d : Derivation) → Told d m → Leads g d e)
           → ((a : Cost) × (s : ℕ) × (row n ≡ Some (a, s))) × ((d : Derivation) → Told d n → Leads g d (Deriv r es))

@@ -6,3 +6,6 @@ pub mod Ranks
 pub mod Examples
 pub mod One
 pub mod Kids
+pub mod UsedRules
+pub mod FreshChains
+pub mod Existence

@@ -2,8 +2,14 @@
 use Rattle.std.specs.Prelude.{◌≡◌, ℕ}
 use Rattle.sel_grammar.specs.declared.grammar.Grammar.{Grammar}
 use Rattle.sel_grammar.specs.PlainTrees.{PlainTree}
-use Rattle.sel_grammar.specs.Derivations.{Derivation}
+use Rattle.sel_grammar.specs.Derivations.{Derivation, Derives}
+use Rattle.sel_grammar.specs.Chains.{HasNoFreeCycle}
 use Rattle.sel_grammar.specs.Best.{IsBest}
 
+-- two best derivations are one
 abbrev pub BestIsOne : Type 0
 BestIsOne = (g : Grammar) (n : ℕ) (t : PlainTree) (d e : Derivation) → IsBest g d n t → IsBest g e n t → d ≡ e
+
+-- where anything derives the tree, some derivation is best
+abbrev pub BestExists : Type 0
+BestExists = (g : Grammar) (n : ℕ) (t : PlainTree) (e : Derivation) → HasNoFreeCycle g → Derives g e n t → (d : Derivation) × IsBest g d n t
