@@ -86,7 +86,7 @@ module _ (g : Grammar) (t : PlainTree) where
   abbrev Of : Used → ℕ → ℕ → Derivation → Type 0
   Of s n r e = (es : Derivations) × (e ≡ Deriv r es) × Fresh s (Deriv r es) n
 
-  kids_of : (n r : ℕ) (rule : Rule) (ts : List PlainTree) (es : Derivations) → rule_at g r ≡ Some rule → fits rule t ≡ Some ts → Derives g (Deriv r es) n t → DeriveAll g es (leaves rule.pattern) ts
+  pub kids_of : (n r : ℕ) (rule : Rule) (ts : List PlainTree) (es : Derivations) → rule_at g r ≡ Some rule → fits rule t ≡ Some ts → Derives g (Deriv r es) n t → DeriveAll g es (leaves rule.pattern) ts
   kids_of n r rule ts es at fit (rule', at', left', (ts', fit', all')) =
       let same : rule' ≡ rule = same_rule g r r rule' rule at' at refl in
       let one : ts' ≡ ts = some_same (sym fit' ∙ ap (λ (x : Rule). fits x t) same ∙ fit) in

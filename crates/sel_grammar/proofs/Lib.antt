@@ -9,3 +9,4 @@ pub mod Kids
 pub mod UsedRules
 pub mod FreshChains
 pub mod Existence
+pub mod Words
