@@ -1,0 +1,10 @@
+pub mod CostBoundLaws
+pub mod Patterns
+pub mod Prices
+pub mod Counts
+pub mod Betters
+pub mod Turns
+pub mod Closing
+pub mod Tables
+pub mod Writing
+pub mod Answer

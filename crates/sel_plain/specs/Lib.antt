@@ -1,0 +1,5 @@
+pub mod CostBounds
+pub mod Table
+pub mod Meaning
+pub mod Rows
+pub mod Places

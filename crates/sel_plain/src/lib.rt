@@ -1,0 +1,11 @@
+//! The best cover of one tree, by dynamic programming over its nodes.
+#![tactic(auto)]
+
+mod best;
+mod cost;
+mod cover;
+mod offer;
+mod row;
+mod table;
+
+pub use best::least;
