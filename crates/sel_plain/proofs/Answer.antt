@@ -8,9 +8,10 @@ use Rattle.sel_grammar.proofs.Firsts.{IsBest-first}
 use Rattle.sel_grammar.specs.Firsts.{IsFirst}
 use Rattle.sel_forest.specs.declared.forest.Node.{Node}
 use Rattle.sel_forest.specs.Postorder.{postorder}
-use Rattle.sel_plain.specs.declared.row.Entry.{Entry}
+use Rattle.sel_plain.specs.declared.entry.Entry.{Entry}
 use Rattle.sel_forest.specs.declared.walk.Goal.{Goal}
-use Rattle.sel_plain.specs.Table.{Row, entry_at, row_at}
+use Rattle.sel_plain.specs.Flat.{Row}
+use Rattle.sel_plain.specs.Table.{entry_at, row_at}
 use Rattle.sel_plain.specs.Meaning.{IsBestEntry, AreBestRows}
 use Rattle.sel_plain.specs.Places.{BestFor, IsHalfWritten}
 use Rattle.sel_forest.specs.Covers.{IsBestCover}

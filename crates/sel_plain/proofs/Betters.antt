@@ -1,8 +1,7 @@
 -- A row that takes a rule's offer comes nearer to the least row, and its entries stay backed.
-use Rattle.std.proofs.Common.{◌≡◌, ℕ, zero, suc, ◌+◌, ◌*◌, ◌<◌, ◌≤◌, ◌^◌, ◌⊎◌, inl, inr, Bool, true, false, if◌then◌else◌, List, [], ◌∷◌, length, refl, ap, sym, ◌∙◌, subst, arith, Option, Some, None, slice_get, get_or}
+use Rattle.std.proofs.Common.{◌≡◌, ℕ, ◌+◌, ◌*◌, ◌<◌, ◌≤◌, ◌^◌, ◌⊎◌, inl, inr, Bool, true, false, if◌then◌else◌, List, length, refl, ap, sym, ◌∙◌, subst, arith, Option, Some, None, slice_get, get_or}
 use Rattle.std.specs.Prelude.{slice_set}
 use Rattle.std.proofs.lemmas.List.Sums.{sum_by-set}
-use Rattle.std.proofs.lemmas.Option.{slice_get-get_or}
 use Rattle.sel_grammar.specs.declared.grammar.Grammar.{Grammar}
 use Rattle.sel_grammar.specs.declared.grammar.Rule.{Rule}
 use Rattle.sel_grammar.specs.declared.grammar.Pattern.{Pattern, Leaf, Nullary, Unary', Binary', end_of-Pattern, more_of-Pattern}
@@ -11,36 +10,14 @@ use Rattle.sel_grammar.specs.Limits.{greatest_cost}
 use Rattle.sel_grammar.specs.Fits.{rule_at, in_range}
 use Rattle.sel_grammar.proofs.CostLaws.{cheaper_or_not, cheaper_same, paid_more}
 use Rattle.sel_forest.specs.declared.forest.Node.{Node}
-use Rattle.sel_plain.specs.declared.row.Entry.{Entry}
+use Rattle.sel_plain.specs.declared.entry.Entry.{Entry}
 use Rattle.sel_plain.specs.CostBounds.{IsUpTo, IsNoDearer, cost_place}
-use Rattle.sel_plain.specs.Table.{Row, entry_at, cost_of, offered, offered_at, offered_by, flat}
+use Rattle.sel_plain.specs.Flat.{Row}
+use Rattle.sel_plain.specs.Table.{entry_at, cost_of, offered, offered_at, offered_by}
+use Rattle.sel_plain.proofs.Entries.{some_same, same_or_other, entry_at-get_or, entry_at-set_same, entry_at-set_other}
 use Rattle.sel_plain.specs.Rows.{IsNoLater, offer_entry, IsBettered, distance, total_distance, counts_to, count_to, IsBacked, AllBacked, OperatorOffers}
 use Rattle.sel_plain.proofs.CostBoundLaws.{IsIn64, IsIn64-capped, cost_place_below, cost_place_less, IsUpTo-wider, IsUpTo-same, IsUpTo-sum, capped_exact, NoDearer-trans, NoDearer-behind, cheaper_no_dearer}
 use Rattle.sel_plain.proofs.Counts.{counted, uncounted, count_to_le, count_to_more, counts_sooner}
-
-pub some_same : {A : Type 0} {x y : A} → Some x ≡ Some y → x ≡ y
-some_same h = cc
-
-pub some_none : {A : Type 0} {x : A} → Some x ≡ None → ⊥
-some_none h = cc
-
-entry_at-get_or : (row : Row) (n : ℕ) → n < length row → entry_at row n ≡ get_or row n None
-entry_at-get_or row n h = ap flat (slice_get-get_or row n None h)
-
-entry_at-set_same : (row : Row) (n : ℕ) (o : Option Entry) → n < length row → entry_at (slice_set row n o) n ≡ o
-entry_at-set_same [] n o h = absurd (omega arith)
-entry_at-set_same (x ∷ row) zero o h = refl
-entry_at-set_same (x ∷ row) (suc n) o h = entry_at-set_same row n o (omega arith)
-
-entry_at-set_other : (row : Row) (n m : ℕ) (o : Option Entry) → (n ≡ m → ⊥) → entry_at (slice_set row n o) m ≡ entry_at row m
-entry_at-set_other [] n m o h = refl
-entry_at-set_other (x ∷ row) zero zero o h = absurd (h refl)
-entry_at-set_other (x ∷ row) zero (suc m) o h = refl
-entry_at-set_other (x ∷ row) (suc n) zero o h = refl
-entry_at-set_other (x ∷ row) (suc n) (suc m) o h = entry_at-set_other row n m o (λ e. h (ap suc e))
-
-same_or_other : (a b : ℕ) → (a ≡ b) ⊎ (a ≡ b → ⊥)
-same_or_other a b = grind arith
 
 -- an offer that an entry doesn't withstand
 later_than : (e f : Entry) → (IsNoLater e f → ⊥) → IsCheaper f.cost e.cost ⊎ ((f.cost ≡ e.cost) × (f.rule < e.rule))

@@ -17,13 +17,14 @@ use Rattle.sel_grammar.proofs.Firsts.{LeadAll-first, DeriveAll-first, no_dearer}
 use Rattle.sel_grammar.proofs.Closure.{IsOperator, Outcome, IsOperatorOffer, IsChain, Offer, NoLater, IsClosed, kept, HasNone-row, entry}
 use Rattle.sel_grammar.proofs.Ranks.{FreeRanks}
 use Rattle.sel_forest.specs.declared.forest.Node.{Node}
-use Rattle.sel_plain.specs.declared.row.Entry.{Entry}
-use Rattle.sel_plain.specs.Table.{Row, entry_at, cost_of, offered, offered_at, offered_by, kids_cost}
+use Rattle.sel_plain.specs.declared.entry.Entry.{Entry}
+use Rattle.sel_plain.specs.Flat.{Row}
+use Rattle.sel_plain.specs.Table.{entry_at, cost_of, offered, offered_at, offered_by, kids_cost}
 use Rattle.sel_plain.specs.Meaning.{IsBestEntry, IsBestRow, AreBestRows, per_node}
 use Rattle.sel_forest.specs.Places.{IsRootAt}
 use Rattle.sel_plain.specs.Rows.{IsNoLater, offer_entry, Withstands, AllWithstand, count_to, IsBacked, AllBacked, OperatorOffers}
 use Rattle.sel_plain.proofs.Prices.{IsKidsCost, room, kids_cost_means}
-use Rattle.sel_plain.proofs.Betters.{some_same, some_none}
+use Rattle.sel_plain.proofs.Entries.{some_same, some_none}
 
 abbrev told_by : Option Entry → Option (Cost × ℕ)
 told_by None = None

@@ -2,9 +2,9 @@
 use Rattle.std.proofs.Common.{◌≡◌, ◌≤◌, ◌⊎◌, inl, inr, Bool, true, false, if◌then◌else◌, [], ◌∷◌, length, ap, arith, Option, Some, None}
 use Rattle.std.proofs.lemmas.List.Sums.{sum_by-cons, sum_by-le-sum_by}
 use Rattle.sel_grammar.specs.Costs.{Cost, IsCheaper}
-use Rattle.sel_plain.specs.declared.row.Entry.{Entry}
+use Rattle.sel_plain.specs.declared.entry.Entry.{Entry}
 use Rattle.sel_plain.specs.CostBounds.{IsNoDearer, is_dearer}
-use Rattle.sel_plain.specs.Table.{Row}
+use Rattle.sel_plain.specs.Flat.{Row}
 use Rattle.sel_plain.specs.Rows.{counts_to, count_to}
 use Rattle.sel_plain.proofs.CostBoundLaws.{dearer_true, dearer_false, dearer_or_not, NoDearer-trans}
 

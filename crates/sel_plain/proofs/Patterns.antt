@@ -7,7 +7,8 @@ use Rattle.sel_grammar.specs.declared.grammar.Pattern.TheBlock.{shape-the_row-Pa
 use denote.Hole.Carrier.{hidden}
 use Rattle.sel_grammar.specs.Costs.{Cost}
 use Rattle.sel_forest.specs.declared.forest.Node.{Node}
-use Rattle.sel_plain.specs.Table.{Row, kids_cost, both_costs, offered_by}
+use Rattle.sel_plain.specs.Flat.{Row}
+use Rattle.sel_plain.specs.Table.{kids_cost, both_costs, offered_by}
 use Rattle.sel_forest.specs.Places.{met}
 
 pub kids_cost_unary : (op : ℕ) (p : Boxed Pattern) (nodes : List Node) (rows : List Row) (i : ℕ)

@@ -16,8 +16,10 @@ use Rattle.sel_plain.specs.CostBounds.{capped_sum, IsUpTo}
 use Rattle.sel_plain.proofs.CostBoundLaws.{capped_exact, IsUpTo-wider, IsUpTo-same, IsUpTo-sum, IsUpTo-none}
 use Rattle.sel_grammar.specs.Firsts.{AllFirst}
 use Rattle.sel_forest.specs.declared.forest.Node.{Node}
-use Rattle.sel_plain.specs.declared.row.Entry.{Entry}
-use Rattle.sel_plain.specs.Table.{Row, entry_at, row_at, cost_of, both_costs, kids_cost}
+use Rattle.sel_plain.specs.declared.entry.Entry.{Entry}
+use Rattle.sel_plain.specs.Flat.{Row}
+use Rattle.sel_plain.specs.Table.{entry_at, row_at, cost_of, both_costs, kids_cost}
+use Rattle.sel_plain.proofs.Entries.{some_same, some_none, same_or_other}
 use Rattle.sel_plain.specs.Meaning.{IsBestEntry, IsBestRow, AreBestRows, per_node}
 use Rattle.sel_forest.specs.Places.{IsRootAt, met}
 use Rattle.sel_grammar.proofs.Kids.{both_kids, costs-both, AllFirst-both, DeriveAll-split}
@@ -40,12 +42,6 @@ HasNoKids g p t = (ts : List PlainTree) → subtrees p t ≡ Some ts → (es : D
 abbrev pub IsKidsCost : Grammar → Pattern → PlainTree → ℕ → Option Cost → Type 0
 IsKidsCost g p t most None = HasNoKids g p t
 IsKidsCost g p t most (Some c) = HasKids g p t c most
-
-some_same : {A : Type 0} {x y : A} → Some x ≡ Some y → x ≡ y
-some_same h = cc
-
-some_none : {A : Type 0} {x : A} → Some x ≡ None → ⊥
-some_none h = cc
 
 one_kid : (g : Grammar) (es : Derivations) (n : ℕ) (t : PlainTree) → DeriveAll g es (n ∷ []) (t ∷ []) → (e : Derivation) × Derives g e n t
 one_kid g no_more n t h = absurd h
@@ -110,9 +106,6 @@ same_test a b h = grind (arith, nat_tests)
 
 other_test : (a b : ℕ) → (a ≡ b → ⊥) → (a == b) ≡ false
 other_test a b h = grind (arith, nat_tests)
-
-same_or_other : (a b : ℕ) → (a ≡ b) ⊎ (a ≡ b → ⊥)
-same_or_other a b = grind arith
 
 -- below how many nodes the best kids are
 abbrev pub room : Pattern → PlainTree → ℕ

@@ -5,7 +5,8 @@ use Rattle.sel_grammar.specs.PlainTrees.{PlainTree, size}
 use Rattle.sel_grammar.specs.Chains.{HasNoFreeCycle}
 use Rattle.sel_grammar.proofs.Ranks.{free_ranks}
 use Rattle.sel_forest.specs.declared.forest.Node.{Node}
-use Rattle.sel_plain.specs.Table.{Row, row_at, row_or_none}
+use Rattle.sel_plain.specs.Flat.{Row}
+use Rattle.sel_plain.specs.Table.{row_at, row_or_none}
 use Rattle.sel_plain.specs.Meaning.{IsBestRow, AreBestRows, per_node}
 use Rattle.sel_forest.specs.Places.{IsRootAt, SizesBelow}
 use Rattle.sel_plain.specs.Rows.{IsSettled}

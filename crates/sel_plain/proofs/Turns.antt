@@ -6,9 +6,11 @@ use Rattle.sel_grammar.specs.declared.grammar.Rule.{Rule}
 use Rattle.sel_grammar.specs.Costs.{Cost}
 use Rattle.sel_grammar.specs.Fits.{rule_at}
 use Rattle.sel_forest.specs.declared.forest.Node.{Node}
-use Rattle.sel_plain.specs.Table.{Row, entry_at, offered}
+use Rattle.sel_plain.specs.Flat.{Row}
+use Rattle.sel_plain.specs.Table.{entry_at, offered}
 use Rattle.sel_plain.specs.Rows.{Withstands, IsBettered, total_distance, KeepsBacked, offer_entry}
-use Rattle.sel_plain.proofs.Betters.{AllBacked-bettered, some_same}
+use Rattle.sel_plain.proofs.Betters.{AllBacked-bettered}
+use Rattle.sel_plain.proofs.Entries.{some_same}
 
 module _ (g : Grammar) (nodes : List Node) (rows : List Row) (i : ℕ) (old : Row) where
   abbrev pub WithstandsTo : ℕ → Type 0

@@ -11,9 +11,10 @@ use Rattle.sel_grammar.specs.Firsts.{IsBefore}
 use Rattle.sel_grammar.specs.Firsts.{IsFirst, AllFirst, Leads, IsLesser}
 use Rattle.sel_grammar.specs.Firsts.{IsKept}
 use Rattle.sel_forest.specs.declared.forest.Node.{Node}
-use Rattle.sel_plain.specs.declared.row.Entry.{Entry}
+use Rattle.sel_plain.specs.declared.entry.Entry.{Entry}
 use Rattle.sel_forest.specs.declared.walk.Goal.{Goal}
-use Rattle.sel_plain.specs.Table.{Row, entry_at, row_at}
+use Rattle.sel_plain.specs.Flat.{Row}
+use Rattle.sel_plain.specs.Table.{entry_at, row_at}
 use Rattle.sel_plain.specs.Meaning.{IsBestEntry, AreBestRows}
 use Rattle.sel_forest.specs.Places.{IsRootAt}
 use Rattle.sel_plain.specs.Places.{BestFor, IsHalfWritten, HasRule, WritesRule}
@@ -22,7 +23,7 @@ use Rattle.sel_forest.proofs.Matching.{Match, goals_match, within}
 use Rattle.sel_grammar.proofs.Kids.{both_kids, lists-both}
 use Rattle.sel_grammar.proofs.CostLaws.{cheaper_not_both, cheaper_not_same}
 use Rattle.sel_forest.proofs.Lying.{fits_subtrees}
-use Rattle.sel_plain.proofs.Betters.{some_same}
+use Rattle.sel_plain.proofs.Entries.{some_same}
 
 -- the best derivation is one
 before_not_both : (xs ys : List ℕ) → IsBefore xs ys → IsBefore ys xs → ⊥

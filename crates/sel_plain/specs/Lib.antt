@@ -1,4 +1,5 @@
 pub mod CostBounds
+pub mod Flat
 pub mod Table
 pub mod Meaning
 pub mod Rows

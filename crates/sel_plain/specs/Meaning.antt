@@ -7,9 +7,10 @@ use Rattle.sel_grammar.specs.Best.{HasNone}
 use Rattle.sel_grammar.specs.Firsts.{IsKept}
 use Rattle.sel_forest.specs.declared.forest.Node.{Node}
 use Rattle.sel_forest.specs.Places.{IsRootAt}
-use Rattle.sel_plain.specs.declared.row.Entry.{Entry}
+use Rattle.sel_plain.specs.declared.entry.Entry.{Entry}
 use Rattle.sel_plain.specs.CostBounds.{IsUpTo}
-use Rattle.sel_plain.specs.Table.{Row, entry_at, row_at}
+use Rattle.sel_plain.specs.Flat.{Row}
+use Rattle.sel_plain.specs.Table.{entry_at, row_at}
 
 -- more than the rules at one node of a best derivation cost together, by either number
 abbrev pub per_node : ℕ

@@ -8,9 +8,10 @@ use Rattle.sel_grammar.specs.Costs.{Cost, ◌⊕◌, IsCheaper, price}
 use Rattle.sel_grammar.specs.Limits.{greatest_cost}
 use Rattle.sel_grammar.specs.Fits.{rule_at}
 use Rattle.sel_forest.specs.declared.forest.Node.{Node}
-use Rattle.sel_plain.specs.declared.row.Entry.{Entry}
+use Rattle.sel_plain.specs.declared.entry.Entry.{Entry}
 use Rattle.sel_plain.specs.CostBounds.{capped_sum, IsUpTo, IsNoDearer, is_dearer, cost_place}
-use Rattle.sel_plain.specs.Table.{Row, entry_at, offered}
+use Rattle.sel_plain.specs.Flat.{Row}
+use Rattle.sel_plain.specs.Table.{entry_at, offered}
 
 -- less cost, or the same and no greater rule
 abbrev pub IsNoLater : Entry → Entry → Type 0

@@ -1,24 +1,19 @@
 -- What the table of entries says of a pattern at a node.
-use Rattle.std.specs.Prelude.{ℕ, if◌then◌else◌, Option, Some, None, option_and_then, List, [], slice_get}
+use Rattle.std.specs.Prelude.{ℕ, if◌then◌else◌, Option, Some, None,  List, [], slice_get}
+use Rattle.std.specs.Option.{option_and_then, option_flatten}
 use Rattle.sel_grammar.specs.declared.grammar.Pattern.{Pattern, Leaf, Nullary, Unary', Binary', end_of-Pattern, more_of-Pattern}
 use Rattle.sel_grammar.specs.declared.grammar.Rule.{Rule}
 use Rattle.sel_grammar.specs.Fits.{in_range}
 use Rattle.sel_grammar.specs.Costs.{Cost, no_cost}
 use Rattle.sel_forest.specs.declared.forest.Node.{Node}
 use Rattle.sel_forest.specs.Places.{met}
-use Rattle.sel_plain.specs.declared.row.Entry.{Entry}
+use Rattle.sel_plain.specs.declared.entry.Entry.{Entry}
+use Rattle.sel_plain.specs.Flat.{Row}
 use Rattle.sel_plain.specs.CostBounds.{capped_sum}
 
 -- the entry of a nonterminal in a row
-abbrev pub flat : {A : Type 0} → Option (Option A) → Option A
-flat None = None
-flat (Some o) = o
-
-abbrev pub Row : Type 0
-Row = List (Option Entry)
-
 abbrev pub entry_at : Row → ℕ → Option Entry
-entry_at row n = flat (slice_get row n)
+entry_at row n = option_flatten (slice_get row n)
 
 abbrev pub cost_of : Option Entry → Option Cost
 cost_of None = None

@@ -7,7 +7,7 @@ ghost use Rattle.sel_grammar.specs.Limits.{IsWithinLimits};
 ghost use Rattle.sel_forest.specs.Postorder.{IsTree};
 
 use crate::cover::{entry_for, written};
-use crate::table::table;
+use crate::fill::filled;
 use sel_base::{List, NoMemory};
 use sel_forest::{Cover, Goal, Tree};
 use sel_grammar::Grammar;
@@ -21,15 +21,15 @@ pub fn least(alloc: Global, grammar: &Grammar, tree: &Tree) -> Result<Option<Cov
     ensures { IfOk result (λ answer. (t : PlainTree) → IsPostorderOf tree.now t → IsAnswer grammar.now t answer) }
 {
     let nodes = tree.nodes.as_slice();
-    let rows = table(alloc, grammar, nodes)?;
+    let table = filled(alloc, grammar, nodes)?;
     let goal = Goal {
         at: nodes.len() - 1,
         nonterminal: grammar.start,
     };
-    match entry_for(rows.as_slice(), goal) {
+    match entry_for(&table, goal) {
         None => Ok(None),
         Some(entry) => {
-            let rules = written(alloc, grammar, nodes, rows.as_slice(), goal)?;
+            let rules = written(alloc, grammar, nodes, &table, goal)?;
             Ok(Some(Cover {
                 cost: entry.cost,
                 rules: List::from_vec(rules),

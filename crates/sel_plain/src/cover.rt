@@ -7,36 +7,33 @@ ghost use Rattle.sel_plain.specs.Places.{IsHalfWritten, HasRule, WritesRule};
 ghost use Rattle.sel_forest.specs.Places.{goals};
 ghost use Rattle.sel_plain.specs.Table.{entry_at, row_at};
 
-use crate::offer::entry_of;
-use crate::row::Entry;
-use sel_base::{List, NoMemory};
+use crate::entry::Entry;
+use crate::table::Table;
+use sel_base::NoMemory;
 use sel_forest::{Goal, Node, push_goals, rule_of};
 use sel_grammar::Grammar;
 use std::alloc::Global;
 
-pub fn entry_for(rows: &[List<Option<Entry>>], goal: Goal) -> Option<Entry>
-    ensures { result ≡ entry_at (row_at rows.now goal.at) goal.nonterminal }
+pub fn entry_for(table: &Table, goal: Goal) -> Option<Entry>
+    ensures { result ≡ entry_at (row_at table.now.rows goal.at) goal.nonterminal }
 {
-    match rows.get(goal.at) {
-        Some(row) => entry_of(row.as_slice(), goal.nonterminal as usize),
-        None => None,
-    }
+    table.entry(goal.at, goal.nonterminal as usize)
 }
 
 /// Writes the goal's rule, and puts the goals of the rule's kids on the stack.
 fn step(
     grammar: &Grammar,
     nodes: &[Node],
-    rows: &[List<Option<Entry>>],
+    table: &Table,
     goal: Goal,
     rules: &mut Vec<u16>,
     stack: &mut Vec<Goal>,
 ) -> Result<(), NoMemory>
-    requires { (number : ℕ) × ((rule : Rule) × HasRule grammar.now rows.now goal number rule) }
+    requires { (number : ℕ) × ((rule : Rule) × HasRule grammar.now table.now.rows goal number rule) }
     ensures { IfOk result
-        (λ _. WritesRule grammar.now nodes.now rows.now goal rules.old.items rules.new.items stack.old.items stack.new.items) }
+        (λ _. WritesRule grammar.now nodes.now table.now.rows goal rules.old.items rules.new.items stack.old.items stack.new.items) }
 {
-    match entry_for(rows, goal) {
+    match entry_for(table, goal) {
         Some(entry) => match rule_of(grammar, entry.rule) {
             Some(rule) => {
                 rules.push(entry.rule)?;
@@ -54,10 +51,10 @@ pub fn written(
     alloc: Global,
     grammar: &Grammar,
     nodes: &[Node],
-    rows: &[List<Option<Entry>>],
+    table: &Table,
     goal: Goal,
 ) -> Result<Vec<u16>, NoMemory>
-    requires means { AreBestRows grammar.now nodes.now rows.now (length nodes.now) }
+    requires means { AreBestRows grammar.now nodes.now table.now.rows (length nodes.now) }
     requires best { IsHalfWritten grammar.now nodes.now goal [] (goal ∷ []) }
     ensures { IfOk result (λ rules. IsHalfWritten grammar.now nodes.now goal rules.items []) }
 {
@@ -65,7 +62,7 @@ pub fn written(
     let mut stack = Vec::new(alloc);
     stack.push(goal)?;
     while let Some(next) = stack.pop() {
-        step(grammar, nodes, rows, next, &mut rules, &mut stack)?;
+        step(grammar, nodes, table, next, &mut rules, &mut stack)?;
     }
     Ok(rules)
 }

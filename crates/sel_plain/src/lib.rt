@@ -4,6 +4,8 @@
 mod best;
 mod cost;
 mod cover;
+mod entry;
+mod fill;
 mod offer;
 mod row;
 mod table;

@@ -2,28 +2,17 @@ ghost use Rattle.std.specs.Prelude.{◌≡◌, ◌<◌, length, slice_get, Some}
 ghost use Rattle.sel_plain.specs.Table.{kids_cost, entry_at, row_at, cost_of, both_costs, offered, offered_by};
 
 use crate::cost::{capped_sum, no_cost};
-use crate::row::Entry;
-use sel_base::{List, Pair};
+use crate::entry::Entry;
+use crate::table::{Table, entry_of};
+use sel_base::Pair;
 use sel_forest::{Node, in_range, met};
 use sel_grammar::{Pattern, Rule};
 
-pub fn entry_of(row: &[Option<Entry>], nonterminal: usize) -> Option<Entry>
-    ensures { result ≡ entry_at row.now nonterminal }
+fn cost_at(table: &Table, at: usize, nonterminal: usize) -> Option<Pair>
+    ensures { result ≡ cost_of (entry_at (row_at table.now.rows at) nonterminal) }
 {
-    match row.get(nonterminal) {
-        Some(entry) => *entry,
-        None => None,
-    }
-}
-
-fn cost_at(rows: &[List<Option<Entry>>], at: usize, nonterminal: usize) -> Option<Pair>
-    ensures { result ≡ cost_of (entry_at (row_at rows.now at) nonterminal) }
-{
-    match rows.get(at) {
-        Some(row) => match entry_of(row.as_slice(), nonterminal) {
-            Some(entry) => Some(entry.cost),
-            None => None,
-        },
+    match table.entry(at, nonterminal) {
+        Some(entry) => Some(entry.cost),
         None => None,
     }
 }
@@ -42,25 +31,25 @@ fn both_costs(first: Option<Pair>, second: Option<Pair>) -> Option<Pair>
 pub fn kids_cost(
     pattern: &Pattern,
     nodes: &[Node],
-    rows: &[List<Option<Entry>>],
+    table: &Table,
     at: usize,
 ) -> Option<Pair>
-    ensures { result ≡ kids_cost pattern.now nodes.now rows.now at }
+    ensures { result ≡ kids_cost pattern.now nodes.now table.now.rows at }
 {
     match pattern {
-        Pattern::Leaf(nonterminal) => cost_at(rows, at, *nonterminal as usize),
+        Pattern::Leaf(nonterminal) => cost_at(table, at, *nonterminal as usize),
         Pattern::Nullary(operator) => match met(nodes, at, *operator, 0) {
             Some(_) => Some(no_cost()),
             None => None,
         },
         Pattern::Unary(operator, below) => match met(nodes, at, *operator, 1) {
-            Some(node) => kids_cost(below.get(), nodes, rows, node.left as usize),
+            Some(node) => kids_cost(below.get(), nodes, table, node.left as usize),
             None => None,
         },
         Pattern::Binary(operator, left, right) => match met(nodes, at, *operator, 2) {
             Some(node) => {
-                let first = kids_cost(left.get(), nodes, rows, node.left as usize);
-                let second = kids_cost(right.get(), nodes, rows, node.right as usize);
+                let first = kids_cost(left.get(), nodes, table, node.left as usize);
+                let second = kids_cost(right.get(), nodes, table, node.right as usize);
                 both_costs(first, second)
             }
             None => None,
@@ -73,16 +62,16 @@ pub fn kids_cost(
 pub fn offered(
     rule: &Rule,
     nodes: &[Node],
-    rows: &[List<Option<Entry>>],
+    table: &Table,
     row: &[Option<Entry>],
     at: usize,
 ) -> Option<Pair>
-    ensures { result ≡ offered rule.now nodes.now rows.now row.now at }
+    ensures { result ≡ offered rule.now nodes.now table.now.rows row.now at }
 {
     match nodes.get(at) {
         Some(node) => {
             if in_range(&rule.range, &node.attribute) {
-                offered_by(&rule.pattern, nodes, rows, row, at)
+                offered_by(&rule.pattern, nodes, table, row, at)
             } else {
                 None
             }
@@ -95,17 +84,17 @@ pub fn offered(
 fn offered_by(
     pattern: &Pattern,
     nodes: &[Node],
-    rows: &[List<Option<Entry>>],
+    table: &Table,
     row: &[Option<Entry>],
     at: usize,
 ) -> Option<Pair>
-    ensures { result ≡ offered_by pattern.now nodes.now rows.now row.now at }
+    ensures { result ≡ offered_by pattern.now nodes.now table.now.rows row.now at }
 {
     match pattern {
         Pattern::Leaf(nonterminal) => match entry_of(row, *nonterminal as usize) {
             Some(entry) => Some(entry.cost),
             None => None,
         },
-        _ => kids_cost(pattern, nodes, rows, at),
+        _ => kids_cost(pattern, nodes, table, at),
     }
 }

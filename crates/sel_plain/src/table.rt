@@ -1,33 +1,70 @@
-ghost use Rattle.std.specs.Prelude.{◌≡◌, ◌<◌, ◌≤◌, ◌^◌, length, IfOk};
-ghost use Rattle.sel_grammar.specs.Chains.{HasNoFreeCycle};
-ghost use Rattle.sel_plain.specs.Meaning.{AreBestRows};
-ghost use Rattle.sel_forest.specs.Places.{SizesBelow};
-ghost use Rattle.sel_plain.specs.Rows.{LeftsBelow};
+ghost use Rattle.std.specs.Prelude.{◌≡◌, ◌<◌, ◌+◌, ◌*◌, ◌++◌, ◌∷◌, [], length, OnOk, OnErr};
+ghost use Rattle.sel_plain.specs.Table.{entry_at, row_at};
 
-use crate::row::{Entry, closed_row};
-use sel_base::{List, NoMemory};
-use sel_forest::Node;
-use sel_grammar::Grammar;
+use crate::entry::Entry;
+use sel_base::NoMemory;
 use std::alloc::Global;
+use std::marker::Model;
 
-/// The row of each node, in the nodes' order.
-pub fn table(
-    alloc: Global,
-    grammar: &Grammar,
-    nodes: &[Node],
-) -> Result<Vec<List<Option<Entry>>>, NoMemory>
-    requires lefts { LeftsBelow grammar.now (length grammar.now.nonterminals) }
-    requires few { length grammar.now.rules < 2 ^ 16 }
-    requires names { length grammar.now.nonterminals ≤ 64 }
-    requires free { HasNoFreeCycle grammar.now }
-    requires sizes { SizesBelow nodes.now (2 ^ 32) }
-    ensures long { IfOk result (λ rows. length rows.items ≡ length nodes.now) }
-    ensures means { IfOk result (λ rows. AreBestRows grammar.now nodes.now rows.items (length nodes.now)) }
+/// A row of entries for each node of a tree, and in it a place for each nonterminal, row behind row in one list.
+#[derive(Debug, Drop)]
+pub struct Table {
+    entries: Vec<Option<Entry>>,
+    width: usize,
+    count: usize,
+}
+
+impl Model for Table {
+    ghost use Rattle.std.specs.Prelude.{◌≡◌, ◌*◌, length};
+    ghost use Rattle.sel_plain.specs.Flat.{Rows, rows_of};
+
+    ghost Value = { Rows };
+
+    ghost view = { λ t. record { width = t.width; rows = rows_of t.count t.width t.entries.items } };
+
+    ghost invariant = { λ t. length t.entries.items ≡ t.count * t.width };
+}
+
+/// What the row has for the nonterminal.
+pub fn entry_of(row: &[Option<Entry>], nonterminal: usize) -> Option<Entry>
+    ensures { result ≡ entry_at row.now nonterminal }
 {
-    let mut rows = Vec::new(alloc);
-    for at in 0..nodes.len() {
-        let row = closed_row(alloc, grammar, nodes, rows.as_slice(), at)?;
-        rows.push(row)?;
+    match row.get(nonterminal) {
+        Some(entry) => *entry,
+        None => None,
     }
-    Ok(rows)
+}
+
+impl Table {
+    pub fn new(alloc: Global, width: usize) -> Table
+        ensures { result ≡ record { width = width; rows = [] } }
+    {
+        Table {
+            entries: Vec::new(alloc),
+            width,
+            count: 0,
+        }
+    }
+
+    pub fn push(&mut self, row: &[Option<Entry>]) -> Result<(), NoMemory>
+        requires width { length row.now ≡ self.old.width }
+        requires few { length self.old.rows < usize.MAX }
+        ensures ok { OnOk result (self.new ≡ record { width = self.old.width; rows = self.old.rows ++ row.now ∷ [] }) }
+        ensures err { OnErr result (self.new ≡ self.old) }
+    {
+        self.entries.extend_from_slice(row)?;
+        self.count += 1;
+        Ok(())
+    }
+
+    /// What the row of the node has for the nonterminal.
+    pub fn entry(&self, at: usize, nonterminal: usize) -> Option<Entry>
+        ensures { result ≡ entry_at (row_at self.now.rows at) nonterminal }
+    {
+        if at < self.count && nonterminal < self.width {
+            entry_of(self.entries.as_slice(), at * self.width + nonterminal)
+        } else {
+            None
+        }
+    }
 }

@@ -1,13 +1,12 @@
 -- The root's entry tells the cost, and the list is written from it.
-use Rattle.std.proofs.Common.{arith, ◌^◌, length, sym, ◌∙◌, subst}
-use Rattle.sel_plain.specs.Meaning.{AreBestRows}
+use Rattle.std.proofs.Common.{arith, ◌^◌, sym, ◌∙◌, subst}
 use Rattle.sel_forest.specs.Covers.{IsBestCover}
 use Rattle.sel_forest.proofs.Roots.{SizesBelow-spelled, some_node}
 use Rattle.sel_plain.proofs.Answer.{root_none, root_partly, root_best}
 use Rattle.sel_plain.proofs.best.least.Goals as goal
 
-pub table-requires-clause-sizes : goal.table-requires-clause-sizes
-table-requires-clause-sizes c =
+pub filled-requires-clause-sizes : goal.filled-requires-clause-sizes
+filled-requires-clause-sizes c =
     let (t, spells, small) = c.requires.tree in
     SizesBelow-spelled c.as_slice-nodes.result.now t (2 ^ 32) (c.as_slice-nodes.ensures ∙ spells) (omega arith)
 
@@ -16,18 +15,18 @@ overflow_sub-goal c = let (t, spells, small) = c.requires.tree in some_node c.as
 
 pub returns-in-None : goal.returns-in-None
 returns-in-None c = λ t spells.
-    root_none c.args.grammar.now c.as_slice-nodes.result.now c.as_slice.result.now t (c.as_slice-nodes.ensures ∙ spells)
-    (subst (λ x. AreBestRows c.args.grammar.now c.as_slice-nodes.result.now x (length c.as_slice-nodes.result.now)) (sym c.as_slice.ensures.value) c.in_ok-rows.ensures.means) c.in-None.ensures
+    root_none c.args.grammar.now c.as_slice-nodes.result.now c.in_ok-table.table.rows t (c.as_slice-nodes.ensures ∙ spells)
+    c.in_ok-table.ensures c.in-None.ensures
 
 pub written-requires-clause-best : goal.written-requires-clause-best
 written-requires-clause-best c =
     let (t, spells, small) = c.requires.tree in
-    root_partly c.args.grammar.now c.as_slice-nodes.result.now c.as_slice.result.now t (c.as_slice-nodes.ensures ∙ spells)
-    (subst (λ x. AreBestRows c.args.grammar.now c.as_slice-nodes.result.now x (length c.as_slice-nodes.result.now)) (sym c.as_slice.ensures.value) c.in_ok-rows.ensures.means) c.in-Some.entry c.in-Some.ensures
+    root_partly c.args.grammar.now c.as_slice-nodes.result.now c.in_ok-table.table.rows t (c.as_slice-nodes.ensures ∙ spells)
+    c.in_ok-table.ensures c.in-Some.entry c.in-Some.ensures
 
 pub returns : goal.returns
 returns c = λ t spells.
-    let made = root_best c.args.grammar.now c.as_slice-nodes.result.now c.as_slice.result.now t (c.as_slice-nodes.ensures ∙ spells)
-    (subst (λ x. AreBestRows c.args.grammar.now c.as_slice-nodes.result.now x (length c.as_slice-nodes.result.now)) (sym c.as_slice.ensures.value) c.in_ok-rows.ensures.means)
+    let made = root_best c.args.grammar.now c.as_slice-nodes.result.now c.in_ok-table.table.rows t (c.as_slice-nodes.ensures ∙ spells)
+    c.in_ok-table.ensures
     c.in-Some.entry c.in_ok-rules-in-Some.rules.items c.in-Some.ensures c.in_ok-rules-in-Some.ensures in
     subst (λ rules. IsBestCover c.args.grammar.now t (record { cost = c.in-Some.entry.cost; rules = rules })) (sym c.from_vec.ensures) made

@@ -23,11 +23,11 @@ loop-k-preserved c =
       | then-improve w ↦
           let b = c.improve.ensures.bettered w.if-improve.true in
           record {
-            long = long_more g c.args.nodes.now c.args.rows.now c.args.at old rule _ _ c.loop-k.row c.improve.new.row b i.long;
+            long = long_more g c.args.nodes.now c.args.table.now.rows c.args.at old rule _ _ c.loop-k.row c.improve.new.row b i.long;
             stays = λ e. cc;
             withstands = λ e. cc;
-            falls = λ e. falls_more g c.args.nodes.now c.args.rows.now c.args.at old c.loop-k.row c.improve.new.row c.loop-k.changed i.stays i.falls (total_distance-bettered rule _ _ c.loop-k.row c.improve.new.row b inside (omega arith));
-            keeps = keeps_more g c.args.nodes.now c.args.rows.now c.args.at old c.loop-k.row c.improve.new.row k rule at inside i.long i.keeps b;
+            falls = λ e. falls_more g c.args.nodes.now c.args.table.now.rows c.args.at old c.loop-k.row c.improve.new.row c.loop-k.changed i.stays i.falls (total_distance-bettered rule _ _ c.loop-k.row c.improve.new.row b inside (omega arith));
+            keeps = keeps_more g c.args.nodes.now c.args.table.now.rows c.args.at old c.loop-k.row c.improve.new.row k rule at inside i.long i.keeps b;
           }
       | else-improve w ↦
           let same : c.improve.new.row ≡ c.loop-k.row = c.improve.ensures.stays w.if-improve.false in
@@ -36,10 +36,10 @@ loop-k-preserved c =
             stays = λ e. same ∙ i.stays (sym w.changed-is ∙ e);
             withstands = λ e.
                 let still : c.loop-k.row ≡ old = i.stays (sym w.changed-is ∙ e) in
-                stands_more g c.args.nodes.now c.args.rows.now c.args.at old k rule at (i.withstands (sym w.changed-is ∙ e))
-                (subst (λ x. Withstands (entry_at x rule.left) (offered rule c.args.nodes.now c.args.rows.now x c.args.at) rule (k + 1)) still (c.improve.ensures.withstands w.if-improve.false));
+                stands_more g c.args.nodes.now c.args.table.now.rows c.args.at old k rule at (i.withstands (sym w.changed-is ∙ e))
+                (subst (λ x. Withstands (entry_at x rule.left) (offered rule c.args.nodes.now c.args.table.now.rows x c.args.at) rule (k + 1)) still (c.improve.ensures.withstands w.if-improve.false));
             falls = λ e. subst (λ x. total_distance x < total_distance old) (sym same) (i.falls (sym w.changed-is ∙ e));
-            keeps = subst (λ x. KeepsBacked g c.args.nodes.now c.args.rows.now c.args.at old x) (sym same) i.keeps;
+            keeps = subst (λ x. KeepsBacked g c.args.nodes.now c.args.table.now.rows c.args.at old x) (sym same) i.keeps;
           }
     ]
 

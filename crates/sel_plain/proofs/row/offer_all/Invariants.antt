@@ -8,7 +8,7 @@ abbrev pub invariant-loop-k : goal.invariant-loop-k
 invariant-loop-k l = record {
   long : length l.row ≡ length l.initial.row;
   stays : l.changed ≡ false → l.row ≡ l.initial.row;
-  withstands : l.changed ≡ false → (k : ℕ) (rule : Rule) → k < l.k → slice_get l.grammar.rules k ≡ Some rule → Withstands (entry_at l.initial.row rule.left) (offered rule l.nodes l.rows l.initial.row l.at) rule (k + 1);
+  withstands : l.changed ≡ false → (k : ℕ) (rule : Rule) → k < l.k → slice_get l.grammar.rules k ≡ Some rule → Withstands (entry_at l.initial.row rule.left) (offered rule l.nodes l.table.rows l.initial.row l.at) rule (k + 1);
   falls : l.changed ≡ true → total_distance l.row < total_distance l.initial.row;
-  keeps : KeepsBacked l.grammar l.nodes l.rows l.at l.initial.row l.row;
+  keeps : KeepsBacked l.grammar l.nodes l.table.rows l.at l.initial.row l.row;
 }
