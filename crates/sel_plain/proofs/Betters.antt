@@ -8,14 +8,15 @@ use Rattle.sel_grammar.specs.declared.grammar.Pattern.{Pattern, Leaf, Nullary, U
 use Rattle.sel_grammar.specs.Costs.{Cost, ◌⊕◌, IsCheaper, price}
 use Rattle.sel_grammar.specs.Limits.{greatest_cost}
 use Rattle.sel_grammar.specs.Fits.{rule_at, in_range}
-use Rattle.sel_grammar.proofs.CostLaws.{cheaper_or_not, cheaper_same, paid_more}
+use Rattle.sel_grammar.proofs.CostLaws.{cheaper_or_not, cheaper_same, same_cheaper, cheaper_trans, paid_more}
 use Rattle.sel_forest.specs.declared.forest.Node.{Node}
 use Rattle.sel_plain.specs.declared.entry.Entry.{Entry}
 use Rattle.sel_plain.specs.CostBounds.{IsUpTo, IsNoDearer, cost_place}
 use Rattle.sel_plain.specs.Flat.{Row}
 use Rattle.sel_plain.specs.Table.{entry_at, cost_of, offered, offered_at, offered_by}
+use Rattle.sel_plain.proofs.Patterns.{by_operator}
 use Rattle.sel_plain.proofs.Entries.{some_same, same_or_other, entry_at-get_or, entry_at-set_same, entry_at-set_other}
-use Rattle.sel_plain.specs.Rows.{IsNoLater, offer_entry, IsBettered, distance, total_distance, counts_to, count_to, IsBacked, AllBacked, OperatorOffers}
+use Rattle.sel_plain.specs.Rows.{IsNoLater, offer_entry, IsBettered, Keeps, distance, total_distance, counts_to, count_to, IsBacked, AllBacked, OperatorOffers}
 use Rattle.sel_plain.proofs.CostBoundLaws.{IsIn64, IsIn64-capped, cost_place_below, cost_place_less, IsUpTo-wider, IsUpTo-same, IsUpTo-sum, capped_exact, NoDearer-trans, NoDearer-behind, cheaper_no_dearer}
 use Rattle.sel_plain.proofs.Counts.{counted, uncounted, count_to_le, count_to_more, counts_sooner}
 
@@ -57,9 +58,46 @@ total_distance-bettered rule r offer old new b h few =
     less : (new old near far : ℕ) → near < far → new + far ≡ old + near → new < old
     less new old near far h k = omega arith
 
--- each entry is there still, and costs no more
-abbrev pub Keeps : Row → Row → Type 0
-Keeps old new = (n : ℕ) (e : Entry) → entry_at old n ≡ Some e → (f : Entry) × (entry_at new n ≡ Some f) × IsNoDearer f.cost e.cost
+pub no_later_trans : (a b c : Entry) → IsNoLater a b → IsNoLater b c → IsNoLater a c
+no_later_trans a b c (inl h) (inl k) = inl (cheaper_trans a.cost b.cost c.cost h k)
+no_later_trans a b c (inl h) (inr k) = inl (cheaper_same a.cost b.cost c.cost h k.0)
+no_later_trans a b c (inr h) (inl k) = inl (same_cheaper a.cost b.cost c.cost h.0 k)
+no_later_trans a b c (inr h) (inr k) = inr (h.0 ∙ k.0, let x = h.1 in let y = k.1 in omega arith)
+
+pub no_later_self : (a : Entry) → IsNoLater a a
+no_later_self a = inr (refl, omega arith)
+
+no_dearer_of : (a b : Entry) → IsNoLater a b → IsNoDearer a.cost b.cost
+no_dearer_of a b (inl h) = inr h
+no_dearer_of a b (inr h) = inl h.0
+
+pub Keeps-self : (row : Row) → Keeps row row
+Keeps-self row n e h = (e, h, no_later_self e)
+
+pub Keeps-trans : (old mid new : Row) → Keeps old mid → Keeps mid new → Keeps old new
+Keeps-trans old mid new h k n e at = let s = h n e at in let z = k n s.0 s.1 in (z.0, z.1, no_later_trans z.0 s.0 e z.2 s.2)
+
+-- a row that took an offer
+module _ (rule : Rule) (r : ℕ) (offer : Option Cost) (old new : Row) (inside : rule.left < length old) (b : IsBettered rule r offer old new) where
+  pub new_same : entry_at new rule.left ≡ Some (offer_entry rule r b.kids)
+  new_same = ap (λ x. entry_at x rule.left) b.set ∙ entry_at-set_same old rule.left (Some (offer_entry rule r b.kids)) inside
+
+  new_other : (n : ℕ) → (rule.left ≡ n → ⊥) → entry_at new n ≡ entry_at old n
+  new_other n h = ap (λ x. entry_at x n) b.set ∙ entry_at-set_other old rule.left n (Some (offer_entry rule r b.kids)) h
+
+  sooner : (e : Entry) → entry_at old rule.left ≡ Some e → IsNoLater (offer_entry rule r b.kids) e
+  sooner e h = go (later_than e (offer_entry rule r b.kids) (b.later e h))
+    where
+      go : IsCheaper (offer_entry rule r b.kids).cost e.cost ⊎ (((offer_entry rule r b.kids).cost ≡ e.cost) × ((offer_entry rule r b.kids).rule < e.rule)) → IsNoLater (offer_entry rule r b.kids) e
+      go (inl l) = inl l
+      go (inr l) = inr (l.0, let x = l.1 in omega arith)
+
+  pub Keeps-bettered : Keeps old new
+  Keeps-bettered n e h = go (same_or_other rule.left n)
+    where
+      go : (rule.left ≡ n) ⊎ (rule.left ≡ n → ⊥) → (f : Entry) × (entry_at new n ≡ Some f) × IsNoLater f e
+      go (inl q) = (offer_entry rule r b.kids, ap (entry_at new) (sym q) ∙ new_same, sooner e (ap (entry_at old) q ∙ h))
+      go (inr d) = (e, new_other n d ∙ h, no_later_self e)
 
 -- an offer is a chain rule's, or the row has no part in it
 abbrev OfferIs : Rule → List Node → List Row → Row → ℕ → Cost → Type 0
@@ -106,7 +144,7 @@ pub offered-keeps : (rule : Rule) (nodes : List Node) (rows : List Row) (old new
 offered-keeps rule nodes rows old new i k keeps h = go (offer_is nodes rows old i k rule h)
   where
     go : OfferIs rule nodes rows old i k → (j : Cost) × (offered rule nodes rows new i ≡ Some j) × IsNoDearer j k
-    go (inl (m, e, p, at, is, w)) = let s = keeps m e at in ((s.0).cost, w new s.0 s.1, subst (λ x. IsNoDearer (s.0).cost x) (sym is) s.2)
+    go (inl (m, e, p, at, is, w)) = let s = keeps m e at in ((s.0).cost, w new s.0 s.1, subst (λ x. IsNoDearer (s.0).cost x) (sym is) (no_dearer_of s.0 e s.2))
     go (inr (p, w)) = (k, w new, inl refl)
 
 module _ (g : Grammar) (rule : Rule) (r : ℕ) (nodes : List Node) (rows : List Row) (old new : Row) (i base : ℕ)
@@ -115,25 +153,8 @@ module _ (g : Grammar) (rule : Rule) (r : ℕ) (nodes : List Node) (rows : List 
   abbrev f : Entry
   f = offer_entry rule r b.kids
 
-  new_same : entry_at new rule.left ≡ Some f
-  new_same = ap (λ x. entry_at x rule.left) b.set ∙ entry_at-set_same old rule.left (Some f) inside
-
-  new_other : (n : ℕ) → (rule.left ≡ n → ⊥) → entry_at new n ≡ entry_at old n
-  new_other n h = ap (λ x. entry_at x n) b.set ∙ entry_at-set_other old rule.left n (Some f) h
-
-  sooner : (e : Entry) → entry_at old rule.left ≡ Some e → IsNoDearer f.cost e.cost
-  sooner e h = go (later_than e f (b.later e h))
-    where
-      go : IsCheaper f.cost e.cost ⊎ ((f.cost ≡ e.cost) × (f.rule < e.rule)) → IsNoDearer f.cost e.cost
-      go (inl l) = inr l
-      go (inr l) = inl l.0
-
   keeps : Keeps old new
-  keeps n e h = go (same_or_other rule.left n)
-    where
-      go : (rule.left ≡ n) ⊎ (rule.left ≡ n → ⊥) → (f : Entry) × (entry_at new n ≡ Some f) × IsNoDearer f.cost e.cost
-      go (inl q) = (f, ap (entry_at new) (sym q) ∙ new_same, sooner e (ap (entry_at old) q ∙ h))
-      go (inr d) = (e, new_other n d ∙ h, inl refl)
+  keeps = Keeps-bettered rule r (offered rule nodes rows old i) old new inside b
 
   -- the row without the entry
   abbrev hole : Row
@@ -165,7 +186,7 @@ module _ (g : Grammar) (rule : Rule) (r : ℕ) (nodes : List Node) (rows : List 
     where
       go : (o : Option Entry) → entry_at old rule.left ≡ o → count_to c old ≡ count_to c hole + counts_to c o → count_to c new ≡ count_to c hole + counts_to c (Some f) → count_to c old ≤ count_to c new
       go None h q s = omega arith
-      go (Some e) h q s = let x = counts_sooner c e f (sooner e h) in omega arith
+      go (Some e) h q s = let x = counts_sooner c e f (no_dearer_of f e (sooner rule r _ old new inside b e h)) in omega arith
 
   -- a dearer entry counts one more
   count_dearer : IsCheaper b.kids f.cost → count_to b.kids old + 1 ≤ count_to f.cost new
@@ -174,14 +195,14 @@ module _ (g : Grammar) (rule : Rule) (r : ℕ) (nodes : List Node) (rows : List 
       go : (o : Option Entry) → entry_at old rule.left ≡ o → count_to b.kids old ≡ count_to b.kids hole + counts_to b.kids o → count_to f.cost new ≡ count_to f.cost hole + counts_to f.cost (Some f)
           → count_to b.kids hole ≤ count_to f.cost hole → counts_to f.cost (Some f) ≡ 1 → count_to b.kids old + 1 ≤ count_to f.cost new
       go None h q s m one = omega arith
-      go (Some e) h q s m one = let x = uncounted b.kids e (cheaper_no_dearer b.kids f.cost e.cost l (sooner e h)) in omega arith
+      go (Some e) h q s m one = let x = uncounted b.kids e (cheaper_no_dearer b.kids f.cost e.cost l (no_dearer_of f e (sooner rule r _ old new inside b e h))) in omega arith
 
   kids_small : IsUpTo (base + 65536 * count_to b.kids old) b.kids
   kids_small = go (offer_is nodes rows old i b.kids rule b.offered)
     where
       go : OfferIs rule nodes rows old i b.kids → IsUpTo (base + 65536 * count_to b.kids old) b.kids
       go (inl (m, e, p, w, is, x)) = subst (λ c. IsUpTo (base + 65536 * count_to c old) c) (sym is) (backed m e w).small
-      go (inr (p, w)) = IsUpTo-wider base _ b.kids (omega arith) (ops rule old b.kids p (w old))
+      go (inr (p, w)) = IsUpTo-wider base _ b.kids (omega arith) (ops rule old b.kids (by_operator rule.pattern p) (w old))
 
   exact : f.cost ≡ price rule ⊕ b.kids
   exact = let l = count_to_le b.kids old in capped_exact greatest_cost (base + 65536 * count_to b.kids old) (price rule) b.kids b.cheap kids_small (omega arith)
@@ -232,6 +253,6 @@ module _ (g : Grammar) (rule : Rule) (r : ℕ) (nodes : List Node) (rows : List 
     where
       go : (rule.left ≡ n) ⊎ (rule.left ≡ n → ⊥) → IsBacked g nodes rows new i base n e
       go (inl q) =
-          let same : f ≡ e = some_same (sym new_same ∙ ap (entry_at new) q ∙ h) in
+          let same : f ≡ e = some_same (sym (new_same rule r _ old new inside b) ∙ ap (entry_at new) q ∙ h) in
           subst (λ x. IsBacked g nodes rows new i base x e) q (subst (λ x. IsBacked g nodes rows new i base rule.left x) same backed_new)
-      go (inr d) = backed_old n e (sym (new_other n d) ∙ h)
+      go (inr d) = backed_old n e (sym (new_other rule r _ old new inside b n d) ∙ h)

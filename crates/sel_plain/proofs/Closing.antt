@@ -22,7 +22,10 @@ use Rattle.sel_plain.specs.Flat.{Row}
 use Rattle.sel_plain.specs.Table.{entry_at, cost_of, offered, offered_at, offered_by, kids_cost}
 use Rattle.sel_plain.specs.Meaning.{IsBestEntry, IsBestRow, AreBestRows, per_node}
 use Rattle.sel_forest.specs.Places.{IsRootAt}
-use Rattle.sel_plain.specs.Rows.{IsNoLater, offer_entry, Withstands, AllWithstand, count_to, IsBacked, AllBacked, OperatorOffers}
+use Rattle.sel_plain.specs.Rows.{IsNoLater, offer_entry, Withstands, KindWithstood, count_to, IsBacked, AllBacked, OperatorOffers}
+use Rattle.sel_plain.specs.declared.kind.RuleKind.{RuleKind}
+use Rattle.sel_plain.specs.Kinds.{kind_of}
+use Rattle.sel_plain.proofs.Patterns.{not_leaf}
 use Rattle.sel_plain.proofs.Prices.{IsKidsCost, room, kids_cost_means}
 use Rattle.sel_plain.proofs.Entries.{some_same, some_none}
 
@@ -97,7 +100,7 @@ module _ (g : Grammar) (nodes : List Node) (rows : List Row) (i : ℕ) (t : Plai
       go true b e = held (kids_cost rule.pattern nodes rows i) (at_root rule.pattern op) (sym (by_operator rule.pattern nodes rows row i op) ∙ e) b
 
   pub operator_offers : OperatorOffers g nodes rows i (per_node * (size t - 1))
-  operator_offers rule row k op h = (operator_offer row rule k op h).1
+  operator_offers rule row k op h = (operator_offer row rule k (not_leaf rule.pattern op) h).1
 
   -- where a rule fits, its pattern's test is passed
   fitting_parts : (rule : Rule) (ts : List PlainTree) → fits rule t ≡ Some ts → (in_range rule.range (attribute_of t) ≡ true) × (subtrees rule.pattern t ≡ Some ts)
@@ -150,7 +153,7 @@ size_some (Node1 op a t) = omega arith
 size_some (Node2 op a t u) = omega arith
 
 module _ (g : Grammar) (nodes : List Node) (rows : List Row) (i : ℕ) (t : PlainTree) (row : Row) (low : AreBestRows g nodes rows i) (stands : IsRootAt nodes i t) (small : size t < 2 ^ 32)
-    (ranks : FreeRanks g) (still : AllWithstand g nodes rows row i) (backed : AllBacked g nodes rows row i (per_node * (size t - 1))) (short : length row ≤ 64) where
+    (ranks : FreeRanks g) (still : (kind : RuleKind) → KindWithstood kind g nodes rows row i) (backed : AllBacked g nodes rows row i (per_node * (size t - 1))) (short : length row ≤ 64) where
   abbrev told_row : ℕ → Option (Cost × ℕ)
   told_row n = told_by (entry_at row n)
 
@@ -190,7 +193,7 @@ module _ (g : Grammar) (nodes : List Node) (rows : List Row) (i : ℕ) (t : Plai
   stable_at : (r : ℕ) (rule : Rule) (k : Cost) → rule_at g r ≡ Some rule → offered rule nodes rows row i ≡ Some k
       → (e : Entry) × (entry_at row rule.left ≡ Some e) × NoLater e.cost e.rule (price rule ⊕ k) r
   stable_at zero rule k at h = absurd (some_none (sym at))
-  stable_at (suc j) rule k at h = go (entry_at row rule.left) refl (subst (λ x. Withstands (entry_at row rule.left) x rule (j + 1)) h (still j rule at))
+  stable_at (suc j) rule k at h = go (entry_at row rule.left) refl (subst (λ x. Withstands (entry_at row rule.left) x rule (j + 1)) h (still (kind_of rule.pattern) j rule at refl))
     where
       later : (e : Entry) → IsUpTo greatest_cost (price rule) → IsUpTo (per_node * size t) k → IsNoLater e (offer_entry rule (j + 1) k) → NoLater e.cost e.rule (price rule ⊕ k) (suc j)
       later e cheap low w = pick (subst (λ c. IsNoLater e (record { cost = c; rule = j + 1 })) (capped_exact greatest_cost (per_node * size t) (price rule) k cheap low (omega arith)) w)

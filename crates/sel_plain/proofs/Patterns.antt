@@ -2,11 +2,13 @@
 use Rattle.std.proofs.Common.{◌≡◌, ℕ, Option, Some, List, refl, ap, sym, ◌∙◌, slice_get}
 use Rattle.std.specs.Prelude.{option_and_then}
 use Rattle.sqlite_items.specs.declared.boxed.Boxed.{Boxed}
-use Rattle.sel_grammar.specs.declared.grammar.Pattern.{Pattern, Nullary, Unary, Binary}
+use Rattle.sel_grammar.specs.declared.grammar.Pattern.{Pattern, Leaf, Nullary, Unary, Binary, Unary', Binary'}
 use Rattle.sel_grammar.specs.declared.grammar.Pattern.TheBlock.{shape-the_row-Pattern-0, hidden-the_row-Pattern-0}
 use denote.Hole.Carrier.{hidden}
 use Rattle.sel_grammar.specs.Costs.{Cost}
 use Rattle.sel_forest.specs.declared.forest.Node.{Node}
+use Rattle.sel_plain.specs.declared.kind.RuleKind.TheVariants.{Operator, Chain}
+use Rattle.sel_plain.specs.Kinds.{kind_of}
 use Rattle.sel_plain.specs.Flat.{Row}
 use Rattle.sel_plain.specs.Table.{kids_cost, both_costs, offered_by}
 use Rattle.sel_forest.specs.Places.{met}
@@ -47,3 +49,23 @@ pub offered_by_binary : (op : ℕ) (p q : Boxed Pattern) (nodes : List Node) (ro
 offered_by_binary op p q nodes rows row i = refl
 
 pub ruleset offer_cases = (offered_by_nullary, offered_by_unary, offered_by_binary)
+
+pub kind_nullary : (op : ℕ) → kind_of (Nullary op) ≡ Operator
+kind_nullary op = refl
+
+pub kind_unary : (op : ℕ) (p : Boxed Pattern) → kind_of (Unary op p) ≡ Operator
+kind_unary op p = refl
+
+pub kind_binary : (op : ℕ) (p q : Boxed Pattern) → kind_of (Binary op p q) ≡ Operator
+kind_binary op p q = refl
+
+pub ruleset kind_cases = (kind_nullary, kind_unary, kind_binary)
+
+pub not_leaf : (p : Pattern) → kind_of p ≡ Operator → (m : ℕ) → p ≡ Leaf m → ⊥
+not_leaf p h m q = let k : Chain ≡ Operator = ap kind_of (sym q) ∙ h in cc
+
+pub by_operator : (p : Pattern) → ((m : ℕ) → p ≡ Leaf m → ⊥) → kind_of p ≡ Operator
+by_operator (Leaf n) h = absurd (h n refl)
+by_operator (Nullary op) h = refl
+by_operator (Unary' op s p) h = refl
+by_operator (Binary' op s p s' q) h = refl

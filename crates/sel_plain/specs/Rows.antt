@@ -3,13 +3,15 @@ use Rattle.std.specs.Prelude.{◌≡◌, ℕ, ◌+◌, ◌*◌, ◌<◌, ◌≤�
 use Rattle.std.specs.List.{sum_by}
 use Rattle.sel_grammar.specs.declared.grammar.Grammar.{Grammar}
 use Rattle.sel_grammar.specs.declared.grammar.Rule.{Rule}
-use Rattle.sel_grammar.specs.declared.grammar.Pattern.{Leaf}
 use Rattle.sel_grammar.specs.Costs.{Cost, ◌⊕◌, IsCheaper, price}
 use Rattle.sel_grammar.specs.Limits.{greatest_cost}
 use Rattle.sel_grammar.specs.Fits.{rule_at}
 use Rattle.sel_forest.specs.declared.forest.Node.{Node}
 use Rattle.sel_plain.specs.declared.entry.Entry.{Entry}
 use Rattle.sel_plain.specs.CostBounds.{capped_sum, IsUpTo, IsNoDearer, is_dearer, cost_place}
+use Rattle.sel_plain.specs.declared.kind.RuleKind.{RuleKind}
+use Rattle.sel_plain.specs.declared.kind.RuleKind.TheVariants.{Operator}
+use Rattle.sel_plain.specs.Kinds.{kind_of}
 use Rattle.sel_plain.specs.Flat.{Row}
 use Rattle.sel_plain.specs.Table.{entry_at, offered}
 
@@ -35,9 +37,14 @@ pub record IsBettered (rule : Rule) (r : ℕ) (offer : Option Cost) (old new : R
   pub set : new ≡ slice_set old rule.left (Some (offer_entry rule r kids))
   pub later : (e : Entry) → entry_at old rule.left ≡ Some e → IsNoLater e (offer_entry rule r kids) → ⊥
 
--- every rule's offer is withstood
-abbrev pub AllWithstand : Grammar → List Node → List Row → Row → ℕ → Type 0
-AllWithstand g nodes rows row i = (k : ℕ) (rule : Rule) → slice_get g.rules k ≡ Some rule → Withstands (entry_at row rule.left) (offered rule nodes rows row i) rule (k + 1)
+-- the offers of all rules of a kind are withstood
+abbrev pub KindWithstood : RuleKind → Grammar → List Node → List Row → Row → ℕ → Type 0
+KindWithstood kind g nodes rows row i =
+    (k : ℕ) (rule : Rule) → slice_get g.rules k ≡ Some rule → kind_of rule.pattern ≡ kind → Withstands (entry_at row rule.left) (offered rule nodes rows row i) rule (k + 1)
+
+-- each entry is there still, or one that is no later
+abbrev pub Keeps : Row → Row → Type 0
+Keeps old new = (n : ℕ) (e : Entry) → entry_at old n ≡ Some e → (f : Entry) × (entry_at new n ≡ Some f) × IsNoLater f e
 
 -- how far an entry is from the least one
 abbrev pub distance : Option Entry → ℕ
@@ -71,11 +78,7 @@ AllBacked g nodes rows row i base = (n : ℕ) (e : Entry) → entry_at row n ≡
 
 -- what rules but chain rules offer is at most base
 abbrev pub OperatorOffers : Grammar → List Node → List Row → ℕ → ℕ → Type 0
-OperatorOffers g nodes rows i base = (rule : Rule) (row : Row) (c : Cost) → ((m : ℕ) → rule.pattern ≡ Leaf m → ⊥) → offered rule nodes rows row i ≡ Some c → IsUpTo base c
-
--- each rule's left side is below a number
-abbrev pub LeftsBelow : Grammar → ℕ → Type 0
-LeftsBelow g n = (k : ℕ) (rule : Rule) → slice_get g.rules k ≡ Some rule → rule.left < n
+OperatorOffers g nodes rows i base = (rule : Rule) (row : Row) (c : Cost) → kind_of rule.pattern ≡ Operator → offered rule nodes rows row i ≡ Some c → IsUpTo base c
 
 -- where the old row's entries are backed, so are the new row's
 abbrev pub KeepsBacked : Grammar → List Node → List Row → ℕ → Row → Row → Type 0
@@ -84,5 +87,5 @@ KeepsBacked g nodes rows i old new = (base : ℕ) → base < 2 ^ 60 → length o
 -- no rule betters the row, and each entry is some rule's
 pub record IsSettled (g : Grammar) (nodes : List Node) (rows : List Row) (row : Row) (i : ℕ) : Type 0 where
   pub long : length row ≡ length g.nonterminals
-  pub still : AllWithstand g nodes rows row i
+  pub still : (kind : RuleKind) → KindWithstood kind g nodes rows row i
   pub backed : (base : ℕ) → base < 2 ^ 60 → length g.nonterminals ≤ 2 ^ 16 → OperatorOffers g nodes rows i base → AllBacked g nodes rows row i base

@@ -6,6 +6,7 @@ mod cost;
 mod cover;
 mod entry;
 mod fill;
+mod kind;
 mod offer;
 mod row;
 mod table;

@@ -1,11 +1,13 @@
 ghost use Rattle.std.specs.Prelude.{◌≡◌, ◌<◌, ◌≤◌, ◌+◌, ◌*◌, ◌^◌, ◌↔◌, ℕ, List, length, slice_get, Some, IsTrue, IfOk, true, false, None, replicate};
 ghost use Rattle.sel_grammar.specs.declared.grammar.Rule.{Rule};
 ghost use Rattle.sel_grammar.specs.Limits.{IsWithinLimits};
+ghost use Rattle.sel_plain.specs.Kinds.{kind_of};
 ghost use Rattle.sel_plain.specs.Table.{entry_at, offered};
-ghost use Rattle.sel_plain.specs.Rows.{IsNoLater, Withstands, IsBettered, AllWithstand, AllBacked, OperatorOffers, total_distance, LeftsBelow, KeepsBacked, IsSettled};
+ghost use Rattle.sel_plain.specs.Rows.{IsNoLater, Withstands, IsBettered, KindWithstood, Keeps, AllBacked, OperatorOffers, total_distance, KeepsBacked, IsSettled};
 
 use crate::cost::{capped_sum, paid};
 use crate::entry::{Entry, is_no_later};
+use crate::kind::{RuleKind, kind_of};
 use crate::offer::offered;
 use crate::table::{Table, entry_of};
 use sel_forest::Node;
@@ -54,25 +56,51 @@ pub fn improve(
     }
 }
 
-/// Offers each rule to the row once. Whether the row took an offer.
+/// Offers the rule to the row, if it is of the kind.
+fn improve_by_kind(
+    kind: RuleKind,
+    rule: &Rule,
+    number: u16,
+    nodes: &[Node],
+    table: &Table,
+    row: &mut [Option<Entry>],
+    at: usize,
+) -> bool
+    requires { rule.now.left < length row.old }
+    ensures stays { result ≡ false → row.new ≡ row.old }
+    ensures withstands { result ≡ false → kind_of rule.now.pattern ≡ kind
+        → Withstands (entry_at row.old rule.now.left) (offered rule.now nodes.now table.now.rows row.old at) rule.now number }
+    ensures bettered { result ≡ true
+        → IsBettered rule.now number (offered rule.now nodes.now table.now.rows row.old at) row.old row.new }
+{
+    if kind_of(&rule.pattern) == kind {
+        improve(rule, number, nodes, table, row, at)
+    } else {
+        false
+    }
+}
+
+/// Offers each rule of the kind to the row once. Whether the row took an offer.
 pub fn offer_all(
+    kind: RuleKind,
     grammar: &Grammar,
     nodes: &[Node],
     table: &Table,
     row: &mut [Option<Entry>],
     at: usize,
 ) -> bool
-    requires lefts { LeftsBelow grammar.now (length row.old) }
-    requires few { length grammar.now.rules < 2 ^ 16 }
+    requires limits { IsWithinLimits grammar.now }
+    requires long { length row.old ≡ length grammar.now.nonterminals }
     ensures stays { result ≡ false → row.new ≡ row.old }
-    ensures withstands { result ≡ false → AllWithstand grammar.now nodes.now table.now.rows row.old at }
+    ensures withstood { result ≡ false → KindWithstood kind grammar.now nodes.now table.now.rows row.new at }
+    ensures operators { kind ≡ RuleKind.Operator → KindWithstood RuleKind.Operator grammar.now nodes.now table.now.rows row.new at }
     ensures falls { result ≡ true → total_distance row.new < total_distance row.old }
-    ensures keeps { KeepsBacked grammar.now nodes.now table.now.rows at row.old row.new }
-    ensures long { length row.new ≡ length row.old }
+    ensures keeps { Keeps row.old row.new }
+    ensures backed { KeepsBacked grammar.now nodes.now table.now.rows at row.old row.new }
 {
     let mut changed = false;
     for (k, rule) in grammar.rules.as_slice().iter().enumerate() {
-        if improve(rule, (k + 1) as u16, nodes, table, row, at) {
+        if improve_by_kind(kind, rule, (k + 1) as u16, nodes, table, row, at) {
             changed = true;
         }
     }
@@ -87,7 +115,8 @@ fn clear(row: &mut [Option<Entry>])
     }
 }
 
-/// Makes the row that of the node, which no rule betters.
+/// Makes the row that of the node, which no rule betters: what a rule with an operator offers depends on
+/// lower nodes alone, so these rules are offered once, and then chain rules until none betters the row.
 pub fn close_row(
     grammar: &Grammar,
     nodes: &[Node],
@@ -100,8 +129,9 @@ pub fn close_row(
     ensures { IsSettled grammar.now nodes.now table.now.rows row.new at }
 {
     clear(row);
+    offer_all(RuleKind::Operator, grammar, nodes, table, row, at);
     'passes: loop {
-        if !offer_all(grammar, nodes, table, row, at) {
+        if !offer_all(RuleKind::Chain, grammar, nodes, table, row, at) {
             return;
         }
     }
