@@ -60,7 +60,7 @@ pub record IsClosed (g : Grammar) (t : PlainTree) (row : Row) (rank : ℕ → �
   -- chain rules of the row lead down
   pub falls : (n : ℕ) (a : Cost) (r : ℕ) (rule : Rule) (m : ℕ) → row n ≡ Some (a, r) → rule_at g r ≡ Some rule → IsChain t rule m → rank m < rank n
 
-chain_or_not : (p : Pattern) → ((m : ℕ) × (p ≡ Leaf m)) ⊎ ((m : ℕ) → p ≡ Leaf m → ⊥)
+pub chain_or_not : (p : Pattern) → ((m : ℕ) × (p ≡ Leaf m)) ⊎ ((m : ℕ) → p ≡ Leaf m → ⊥)
 chain_or_not (Leaf m) = inl (m, refl)
 chain_or_not (Nullary op) = inr (λ m h. cc)
 chain_or_not (Unary' op s p) = inr (λ m h. cc)

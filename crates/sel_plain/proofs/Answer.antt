@@ -10,10 +10,9 @@ use Rattle.sel_forest.specs.declared.forest.Node.{Node}
 use Rattle.sel_forest.specs.Postorder.{postorder}
 use Rattle.sel_plain.specs.declared.entry.Entry.{Entry}
 use Rattle.sel_forest.specs.declared.walk.Goal.{Goal}
-use Rattle.sel_plain.specs.Flat.{Row}
-use Rattle.sel_plain.specs.Table.{entry_at, row_at}
-use Rattle.sel_plain.specs.Meaning.{IsBestEntry, AreBestRows}
-use Rattle.sel_plain.specs.Places.{BestFor, IsHalfWritten}
+use Rattle.sel_plain.specs.Rows.{Row, entry_at, row_at}
+use Rattle.sel_plain.specs.BestRows.{IsBestEntry, AreBestRows}
+use Rattle.sel_plain.specs.Writing.{BestFor, IsHalfWritten}
 use Rattle.sel_forest.specs.Covers.{IsBestCover}
 use Rattle.sel_forest.proofs.PlaceLemmas.{append-none}
 use Rattle.sel_plain.proofs.Writing.{same_first}
@@ -38,7 +37,7 @@ module _ (g : Grammar) (nodes : List Node) (rows : List Row) (t : PlainTree) (h 
       let best = Deriv e.rule m.0 in
       record {
         tree = t;
-        stands = stands_root nodes t h;
+        root = stands_root nodes t h;
         best = best;
         first = (m.1).first;
         kids = more best no_more;
@@ -54,7 +53,7 @@ module _ (g : Grammar) (nodes : List Node) (rows : List Row) (t : PlainTree) (h 
       → IsBestCover g t (record { cost = e.cost; rules = rules })
   root_best e rules q partly =
       let m = (root_some e q).0 in
-      let tree : partly.tree ≡ t = same_tree nodes (length nodes - 1) partly.tree t partly.stands (stands_root nodes t h) in
+      let tree : partly.tree ≡ t = same_tree nodes (length nodes - 1) partly.tree t partly.root (stands_root nodes t h) in
       let first : IsFirst g partly.best g.start t = subst (λ x. IsFirst g partly.best g.start x) tree partly.first in
       let same : Deriv e.rule m.0 ≡ partly.best = same_first g (Deriv e.rule m.0) partly.best g.start t (m.1).first first in
       record {

@@ -12,11 +12,12 @@ use Rattle.sel_grammar.proofs.CostLaws.{cheaper_or_not, cheaper_same, same_cheap
 use Rattle.sel_forest.specs.declared.forest.Node.{Node}
 use Rattle.sel_plain.specs.declared.entry.Entry.{Entry}
 use Rattle.sel_plain.specs.CostBounds.{IsUpTo, IsNoDearer, cost_place}
-use Rattle.sel_plain.specs.Flat.{Row}
-use Rattle.sel_plain.specs.Table.{entry_at, cost_of, offered, offered_at, offered_by}
-use Rattle.sel_plain.proofs.Patterns.{by_operator}
-use Rattle.sel_plain.proofs.Entries.{some_same, same_or_other, entry_at-get_or, entry_at-set_same, entry_at-set_other}
-use Rattle.sel_plain.specs.Rows.{IsNoLater, offer_entry, IsBettered, Keeps, distance, total_distance, counts_to, count_to, IsBacked, AllBacked, OperatorOffers}
+use Rattle.sel_plain.specs.Rows.{Row, entry_at, cost_of}
+use Rattle.sel_plain.specs.Offers.{offered, offered_at, offered_by}
+use Rattle.sel_plain.proofs.Patterns.{operator_kind}
+use Rattle.sel_forest.proofs.Matching.{some_same}
+use Rattle.sel_plain.proofs.Entries.{same_or_other, entry_at-get_or, entry_at-set_same, entry_at-set_other}
+use Rattle.sel_plain.specs.Bettering.{IsNoLater, offer_entry, IsBettered, Keeps, distance, total_distance, counts_to, count_to, IsBacked, AllBacked, OperatorOffers}
 use Rattle.sel_plain.proofs.CostBoundLaws.{IsIn64, IsIn64-capped, cost_place_below, cost_place_less, IsUpTo-wider, IsUpTo-same, IsUpTo-sum, capped_exact, NoDearer-trans, NoDearer-behind, cheaper_no_dearer}
 use Rattle.sel_plain.proofs.Counts.{counted, uncounted, count_to_le, count_to_more, counts_sooner}
 
@@ -202,7 +203,7 @@ module _ (g : Grammar) (rule : Rule) (r : ℕ) (nodes : List Node) (rows : List 
     where
       go : OfferIs rule nodes rows old i b.kids → IsUpTo (base + 65536 * count_to b.kids old) b.kids
       go (inl (m, e, p, w, is, x)) = subst (λ c. IsUpTo (base + 65536 * count_to c old) c) (sym is) (backed m e w).small
-      go (inr (p, w)) = IsUpTo-wider base _ b.kids (omega arith) (ops rule old b.kids (by_operator rule.pattern p) (w old))
+      go (inr (p, w)) = IsUpTo-wider base _ b.kids (omega arith) (ops rule old b.kids (operator_kind rule.pattern p) (w old))
 
   exact : f.cost ≡ price rule ⊕ b.kids
   exact = let l = count_to_le b.kids old in capped_exact greatest_cost (base + 65536 * count_to b.kids old) (price rule) b.kids b.cheap kids_small (omega arith)

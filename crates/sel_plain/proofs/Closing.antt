@@ -1,4 +1,4 @@
--- A row that no rule betters, and whose entries are backed, means what it should.
+-- A row that no rule betters, and whose entries are backed, is the best.
 use Rattle.std.proofs.Common.{◌≡◌, ℕ, zero, suc, ◌+◌, ◌-◌, ◌*◌, ◌<◌, ◌≤◌, ◌^◌, ◌⊎◌, inl, inr, Bool, true, false, if◌then◌else◌, List, [], ◌∷◌, length, refl, ap, sym, ◌∙◌, subst, arith, Option, Some, None}
 use Rattle.sel_grammar.specs.declared.grammar.Grammar.{Grammar}
 use Rattle.sel_grammar.specs.declared.grammar.Rule.{Rule}
@@ -9,45 +9,39 @@ use Rattle.sel_grammar.proofs.CostLaws.{weight, weight-paid, free_or_not, cheape
 use Rattle.sel_plain.specs.CostBounds.{IsUpTo, IsNoDearer}
 use Rattle.sel_plain.proofs.CostBoundLaws.{IsUpTo-wider, IsUpTo-same, capped_exact, Nat-up_to, NoDearer-not}
 use Rattle.sel_plain.proofs.Counts.{count_to_le}
-use Rattle.sel_grammar.specs.PlainTrees.{PlainTree, Node0, Node1, Node2, size, attribute_of}
+use Rattle.sel_grammar.specs.PlainTrees.{PlainTree, size, attribute_of}
 use Rattle.sel_grammar.specs.Fits.{rule_at, in_range, fits, leaves, subtrees}
 use Rattle.sel_grammar.specs.Derivations.{Derivations, costs}
 use Rattle.sel_grammar.specs.Firsts.{AllFirst}
 use Rattle.sel_grammar.proofs.Firsts.{LeadAll-first, DeriveAll-first, no_dearer}
-use Rattle.sel_grammar.proofs.Closure.{IsOperator, Outcome, IsOperatorOffer, IsChain, Offer, NoLater, IsClosed, kept, HasNone-row, entry}
-use Rattle.sel_grammar.proofs.Ranks.{FreeRanks}
+use Rattle.sel_grammar.proofs.Closure.{IsOperator, Outcome, IsOperatorOffer, IsChain, Offer, NoLater, IsClosed, kept, HasNone-row, entry, chain_or_not}
+use Rattle.sel_grammar.proofs.Ranks.{FreeRanks, free_ranks}
+use Rattle.sel_grammar.specs.Chains.{HasNoFreeCycle}
 use Rattle.sel_forest.specs.declared.forest.Node.{Node}
 use Rattle.sel_plain.specs.declared.entry.Entry.{Entry}
-use Rattle.sel_plain.specs.Flat.{Row}
-use Rattle.sel_plain.specs.Table.{entry_at, cost_of, offered, offered_at, offered_by, kids_cost}
-use Rattle.sel_plain.specs.Meaning.{IsBestEntry, IsBestRow, AreBestRows, per_node}
+use Rattle.sel_plain.specs.Rows.{Row, entry_at, cost_of}
+use Rattle.sel_plain.specs.Offers.{offered, offered_at, offered_by, kids_cost}
+use Rattle.sel_plain.specs.BestRows.{IsBestEntry, IsBestRow, AreBestRows, per_node}
 use Rattle.sel_forest.specs.Places.{IsRootAt}
-use Rattle.sel_plain.specs.Rows.{IsNoLater, offer_entry, Withstands, KindWithstood, count_to, IsBacked, AllBacked, OperatorOffers}
+use Rattle.sel_plain.specs.Bettering.{IsNoLater, offer_entry, Withstands, KindWithstood, count_to, IsBacked, AllBacked, OperatorOffers}
 use Rattle.sel_plain.specs.declared.kind.RuleKind.{RuleKind}
 use Rattle.sel_plain.specs.Kinds.{kind_of}
 use Rattle.sel_plain.proofs.Patterns.{not_leaf}
-use Rattle.sel_plain.proofs.Prices.{IsKidsCost, room, kids_cost_means}
-use Rattle.sel_plain.proofs.Entries.{some_same, some_none}
+use Rattle.sel_forest.proofs.Roots.{size_some}
+use Rattle.sel_forest.proofs.Lying.{root_at}
+use Rattle.sel_plain.proofs.KidsCosts.{IsKidsCost, room, kids_cost_means}
+use Rattle.sel_forest.proofs.Matching.{some_same, some_none}
 
 abbrev told_by : Option Entry → Option (Cost × ℕ)
 told_by None = None
 told_by (Some e) = entry e.cost e.rule
 
-chain_or_not : (p : Pattern) → ((m : ℕ) × (p ≡ Leaf m)) ⊎ ((m : ℕ) → p ≡ Leaf m → ⊥)
-chain_or_not (Leaf m) = inl (m, refl)
-chain_or_not (Nullary op) = inr (λ m h. cc)
-chain_or_not (Unary' op s p) = inr (λ m h. cc)
-chain_or_not (Binary' op s p s' q) = inr (λ m h. cc)
-
 -- an offer at a node is by the tree's attribute
 offered_is : (nodes : List Node) (rows : List Row) (row : Row) (i : ℕ) (t : PlainTree) (rule : Rule) → IsRootAt nodes i t
     → offered rule nodes rows row i ≡ (if in_range rule.range (attribute_of t) then offered_by rule.pattern nodes rows row i else None)
-offered_is nodes rows row i (Node0 op a) rule (node, get, is, kids, at) =
-    ap (λ o. offered_at o rule nodes rows row i) get ∙ ap (λ x. if in_range rule.range x then offered_by rule.pattern nodes rows row i else None) at
-offered_is nodes rows row i (Node1 op a t) rule (node, get, is, kids, at, w) =
-    ap (λ o. offered_at o rule nodes rows row i) get ∙ ap (λ x. if in_range rule.range x then offered_by rule.pattern nodes rows row i else None) at
-offered_is nodes rows row i (Node2 op a t u) rule (node, get, is, kids, at, w) =
-    ap (λ o. offered_at o rule nodes rows row i) get ∙ ap (λ x. if in_range rule.range x then offered_by rule.pattern nodes rows row i else None) at
+offered_is nodes rows row i t rule root =
+    let r = root_at nodes i t root in
+    ap (λ o. offered_at o rule nodes rows row i) (r.1).0 ∙ ap (λ x. if in_range rule.range x then offered_by rule.pattern nodes rows row i else None) (r.1).1
 
 by_operator : (p : Pattern) (nodes : List Node) (rows : List Row) (row : Row) (i : ℕ) → ((m : ℕ) → p ≡ Leaf m → ⊥) → offered_by p nodes rows row i ≡ kids_cost p nodes rows i
 by_operator (Leaf m) nodes rows row i h = absurd (h m refl)
@@ -70,13 +64,13 @@ same_costs g ds es ns ts f h =
     go (inr q) (inl k) = sym k
     go (inr q) (inr k) = absurd (cheaper_not_both (costs g ds) (costs g es) q k)
 
-module _ (g : Grammar) (nodes : List Node) (rows : List Row) (i : ℕ) (t : PlainTree) (low : AreBestRows g nodes rows i) (stands : IsRootAt nodes i t) (small : size t < 2 ^ 32) where
+module _ (g : Grammar) (nodes : List Node) (rows : List Row) (i : ℕ) (t : PlainTree) (low : AreBestRows g nodes rows i) (root : IsRootAt nodes i t) (small : size t < 2 ^ 32) where
   at_root : (p : Pattern) → ((m : ℕ) → p ≡ Leaf m → ⊥) → IsKidsCost g p t (size t - 1) (kids_cost p nodes rows i)
-  at_root p op = subst (λ x. IsKidsCost g p t x (kids_cost p nodes rows i)) (room_operator p t op) (kids_cost_means g nodes rows i low p i t (omega arith) small stands (λ n e. absurd (op n e)))
+  at_root p op = subst (λ x. IsKidsCost g p t x (kids_cost p nodes rows i)) (room_operator p t op) (kids_cost_means g nodes rows i low p i t (omega arith) small root (λ n e. absurd (op n e)))
 
   -- the offer of a rule that is no chain rule
   pub operator_offer : (row : Row) (rule : Rule) (k : Cost) → IsOperator rule → offered rule nodes rows row i ≡ Some k → ((ds : Derivations) × IsOperatorOffer g t rule ds k) × IsUpTo (per_node * (size t - 1)) k
-  operator_offer row rule k op h = go (in_range rule.range (attribute_of t)) refl (sym (offered_is nodes rows row i t rule stands) ∙ h)
+  operator_offer row rule k op h = go (in_range rule.range (attribute_of t)) refl (sym (offered_is nodes rows row i t rule root) ∙ h)
     where
       held : (o : Option Cost) → IsKidsCost g rule.pattern t (size t - 1) o → o ≡ Some k → in_range rule.range (attribute_of t) ≡ true → ((ds : Derivations) × IsOperatorOffer g t rule ds k) × IsUpTo (per_node * (size t - 1)) k
       held None w e b = cc
@@ -121,7 +115,7 @@ module _ (g : Grammar) (nodes : List Node) (rows : List Row) (i : ℕ) (t : Plai
   offered_operator : (row : Row) (rule : Rule) (ds : Derivations) (c : Cost) → IsOperatorOffer g t rule ds c → offered rule nodes rows row i ≡ Some c
   offered_operator row rule ds c o =
       let f = fitting_parts rule o.subtrees o.fitting in
-      offered_is nodes rows row i t rule stands ∙ ap (λ b. if b then offered_by rule.pattern nodes rows row i else None) f.0 ∙ by_operator rule.pattern nodes rows row i o.operator
+      offered_is nodes rows row i t rule root ∙ ap (λ b. if b then offered_by rule.pattern nodes rows row i else None) f.0 ∙ by_operator rule.pattern nodes rows row i o.operator
       ∙ go (kids_cost rule.pattern nodes rows i) (at_root rule.pattern o.operator) f.1
     where
       go : (p : Option Cost) → IsKidsCost g rule.pattern t (size t - 1) p → subtrees rule.pattern t ≡ Some (o.subtrees) → p ≡ Some c
@@ -132,13 +126,13 @@ module _ (g : Grammar) (nodes : List Node) (rows : List Row) (i : ℕ) (t : Plai
 
   offered_chain : (row : Row) (rule : Rule) (m : ℕ) → IsChain t rule m → offered rule nodes rows row i ≡ cost_of (entry_at row m)
   offered_chain row rule m c =
-      offered_is nodes rows row i t rule stands ∙ ap (λ b. if b then offered_by rule.pattern nodes rows row i else None) (fitting_parts rule (t ∷ []) c.fitting).0
+      offered_is nodes rows row i t rule root ∙ ap (λ b. if b then offered_by rule.pattern nodes rows row i else None) (fitting_parts rule (t ∷ []) c.fitting).0
       ∙ ap (λ p. offered_by p nodes rows row i) c.chain
 
 mul_le : (a b c : ℕ) → a ≤ b → a * c ≤ b * c
 mul_le a b c h = grind arith
 
--- how far an entry stands above the least one
+-- how far an entry root above the least one
 abbrev height : ℕ → ℕ → Option Entry → ℕ
 height top z None = 0
 height top z (Some e) = weight e.cost * top + z
@@ -147,12 +141,7 @@ lower : (top a b c z w : ℕ) → z ≤ top → b ≡ c + a → (z < w) ⊎ (1 �
 lower top a b c z w h e (inl l) = let m = mul_le a b (top + 1) (omega arith) in omega arith
 lower top a b c z w h e (inr l) = let m = mul_le (a + 1) b (top + 1) (omega arith) in omega arith
 
-size_some : (t : PlainTree) → 1 ≤ size t
-size_some (Node0 op a) = omega arith
-size_some (Node1 op a t) = omega arith
-size_some (Node2 op a t u) = omega arith
-
-module _ (g : Grammar) (nodes : List Node) (rows : List Row) (i : ℕ) (t : PlainTree) (row : Row) (low : AreBestRows g nodes rows i) (stands : IsRootAt nodes i t) (small : size t < 2 ^ 32)
+module _ (g : Grammar) (nodes : List Node) (rows : List Row) (i : ℕ) (t : PlainTree) (row : Row) (low : AreBestRows g nodes rows i) (root : IsRootAt nodes i t) (small : size t < 2 ^ 32)
     (ranks : FreeRanks g) (still : (kind : RuleKind) → KindWithstood kind g nodes rows row i) (backed : AllBacked g nodes rows row i (per_node * (size t - 1))) (short : length row ≤ 64) where
   abbrev told_row : ℕ → Option (Cost × ℕ)
   told_row n = told_by (entry_at row n)
@@ -186,10 +175,10 @@ module _ (g : Grammar) (nodes : List Node) (rows : List Row) (i : ℕ) (t : Plai
           tested false e = absurd (some_none (sym e))
 
           chain_cost : (m : ℕ) → rule.pattern ≡ Leaf m → cost_of (entry_at row m) ≡ Some k
-          chain_cost m p = ap (λ q. offered_by q nodes rows row i) (sym p) ∙ tested (in_range rule.range (attribute_of t)) (sym (offered_is nodes rows row i t rule stands) ∙ h)
-      go (inr op) = IsUpTo-wider (per_node * (size t - 1)) _ k (omega arith) (operator_offer g nodes rows i t low stands small row rule k op h).1
+          chain_cost m p = ap (λ q. offered_by q nodes rows row i) (sym p) ∙ tested (in_range rule.range (attribute_of t)) (sym (offered_is nodes rows row i t rule root) ∙ h)
+      go (inr op) = IsUpTo-wider (per_node * (size t - 1)) _ k (omega arith) (operator_offer g nodes rows i t low root small row rule k op h).1
 
-  -- the entry at a rule's left side stands against its offer
+  -- the entry at a rule's left side root against its offer
   stable_at : (r : ℕ) (rule : Rule) (k : Cost) → rule_at g r ≡ Some rule → offered rule nodes rows row i ≡ Some k
       → (e : Entry) × (entry_at row rule.left ≡ Some e) × NoLater e.cost e.rule (price rule ⊕ k) r
   stable_at zero rule k at h = absurd (some_none (sym at))
@@ -207,10 +196,10 @@ module _ (g : Grammar) (nodes : List Node) (rows : List Row) (i : ℕ) (t : Plai
       go (Some e) q s = (e, q, later e s.1 (kids_small rule k h) s.0)
 
   offer_of : (rule : Rule) (c : Cost) → Offer g t told_row rule c → offered rule nodes rows row i ≡ Some c
-  offer_of rule c (inl (ds, o)) = offered_operator g nodes rows i t low stands small row rule ds c o
+  offer_of rule c (inl (ds, o)) = offered_operator g nodes rows i t low root small row rule ds c o
   offer_of rule c (inr (m, ch, (s, em))) =
       let e = entry_of (entry_at row m) c s em in
-      offered_chain g nodes rows i t low stands small row rule m ch ∙ ap cost_of e.1 ∙ ap (λ (x : Cost). Some x) e.2
+      offered_chain g nodes rows i t low root small row rule m ch ∙ ap cost_of e.1 ∙ ap (λ (x : Cost). Some x) e.2
 
   stable : (r : ℕ) (rule : Rule) (c : Cost) → rule_at g r ≡ Some rule → Offer g t told_row rule c → (a : Cost) × (s : ℕ) × (told_row rule.left ≡ Some (a, s)) × NoLater a s (price rule ⊕ c) r
   stable r rule c at o =
@@ -245,8 +234,8 @@ module _ (g : Grammar) (nodes : List Node) (rows : List Row) (i : ℕ) (t : Plai
           (record { chain = p; fitting = ap (λ x. if x then subtrees rule.pattern t else None) b ∙ ap (λ q. subtrees q t) p })
 
       go : ((m : ℕ) × (rule.pattern ≡ Leaf m)) ⊎ ((m : ℕ) → rule.pattern ≡ Leaf m → ⊥) → Offer g t told_row rule k
-      go (inl (m, p)) = tested m (in_range rule.range (attribute_of t)) refl p (sym (offered_is nodes rows row i t rule stands) ∙ h)
-      go (inr op) = inl ((operator_offer g nodes rows i t low stands small row rule k op h).0)
+      go (inl (m, p)) = tested m (in_range rule.range (attribute_of t)) refl p (sym (offered_is nodes rows row i t rule root) ∙ h)
+      go (inr op) = inl ((operator_offer g nodes rows i t low root small row rule k op h).0)
 
   by_rule : (n : ℕ) (a : Cost) (r : ℕ) → told_row n ≡ Some (a, r) → (rule : Rule) × (c : Cost) × (rule_at g r ≡ Some rule) × (rule.left ≡ n) × Offer g t told_row rule c × (a ≡ price rule ⊕ c)
   by_rule n a r h =
@@ -260,7 +249,7 @@ module _ (g : Grammar) (nodes : List Node) (rows : List Row) (i : ℕ) (t : Plai
       let k = backed n e.0 e.1 in
       let same : k.rule ≡ rule = some_same (sym k.numbered ∙ ap (rule_at g) e.3 ∙ at) in
       let offers : offered rule nodes rows row i ≡ Some (k.kids) = ap (λ (x : Rule). offered x nodes rows row i) (sym same) ∙ k.offered in
-      go e.0 k.kids (entry_at row m) refl e.1 (sym (offered_chain g nodes rows i t low stands small row rule m ch) ∙ offers)
+      go e.0 k.kids (entry_at row m) refl e.1 (sym (offered_chain g nodes rows i t low root small row rule m ch) ∙ offers)
       (subst (λ (x : Rule). e.0.cost ≡ price x ⊕ k.kids) same (exact n e.0 e.1 k)) (subst (λ (x : Rule). x.left ≡ n) same k.left)
     where
       free : rule.left ≡ n → (price rule ≡ no_cost) ⊎ (1 ≤ (rule.cost).first + (rule.cost).second) → (ranks.rank m < ranks.rank n) ⊎ (1 ≤ (rule.cost).first + (rule.cost).second)
@@ -277,9 +266,9 @@ module _ (g : Grammar) (nodes : List Node) (rows : List Row) (i : ℕ) (t : Plai
           subst (λ v. height (ranks.top + 1) (ranks.rank m) v < rank n) (sym p) (subst (λ v. height (ranks.top + 1) (ranks.rank m) (Some f) < height (ranks.top + 1) (ranks.rank n) v) (sym q) low)
 
   closed : IsClosed g t told_row rank
-  closed = record { low = λ r rule ts at op fit. outcome g nodes rows i t low stands small rule ts op fit; stable = stable; backed = by_rule; falls = falls }
+  closed = record { low = λ r rule ts at op fit. outcome g nodes rows i t low root small rule ts op fit; stable = stable; backed = by_rule; falls = falls }
 
-  -- the row means what it should
+  -- the row is the best
   pub IsBestRow-closed : IsBestRow g t row
   IsBestRow-closed n = go (entry_at row n) refl
     where
@@ -290,3 +279,10 @@ module _ (g : Grammar) (nodes : List Node) (rows : List Row) (i : ℕ) (t : Plai
           let f = few e.cost in
           let z = size_some t in
           (k, IsUpTo-wider (per_node * (size t - 1) + 65536 * count_to e.cost row) _ e.cost (omega arith) (backed n e h).small)
+
+pub IsBestRow-settled : (g : Grammar) (nodes : List Node) (rows : List Row) (row : Row) (i : ℕ) (t : PlainTree) → HasNoFreeCycle g → length g.nonterminals ≤ 64
+    → AreBestRows g nodes rows i → IsRootAt nodes i t → size t < 2 ^ 32 → length row ≡ length g.nonterminals → ((kind : RuleKind) → KindWithstood kind g nodes rows row i)
+    → ((base : ℕ) → base < 2 ^ 60 → OperatorOffers g nodes rows i base → AllBacked g nodes rows row i base) → IsBestRow g t row
+IsBestRow-settled g nodes rows row i t free names lower root small long still backed =
+    let ops = operator_offers g nodes rows i t lower root small in
+    IsBestRow-closed g nodes rows i t row lower root small (free_ranks g free) still (backed (per_node * (size t - 1)) (omega arith) ops) (omega arith)

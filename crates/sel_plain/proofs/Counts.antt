@@ -4,8 +4,8 @@ use Rattle.std.proofs.lemmas.List.Sums.{sum_by-cons, sum_by-le-sum_by}
 use Rattle.sel_grammar.specs.Costs.{Cost, IsCheaper}
 use Rattle.sel_plain.specs.declared.entry.Entry.{Entry}
 use Rattle.sel_plain.specs.CostBounds.{IsNoDearer, is_dearer}
-use Rattle.sel_plain.specs.Flat.{Row}
-use Rattle.sel_plain.specs.Rows.{counts_to, count_to}
+use Rattle.sel_plain.specs.Rows.{Row}
+use Rattle.sel_plain.specs.Bettering.{counts_to, count_to}
 use Rattle.sel_plain.proofs.CostBoundLaws.{dearer_true, dearer_false, dearer_or_not, NoDearer-trans}
 
 pub counted : (c : Cost) (e : Entry) → IsNoDearer e.cost c → counts_to c (Some e) ≡ 1

@@ -1,8 +1,8 @@
 pub mod CostBoundLaws
 pub mod Patterns
-pub mod Prices
+pub mod KidsCosts
 pub mod Entries
-pub mod FlatLaws
+pub mod RowLaws
 pub mod Counts
 pub mod Betters
 pub mod Turns

@@ -9,8 +9,8 @@ use Rattle.sel_grammar.specs.Costs.{Cost}
 use Rattle.sel_forest.specs.declared.forest.Node.{Node}
 use Rattle.sel_plain.specs.declared.kind.RuleKind.TheVariants.{Operator, Chain}
 use Rattle.sel_plain.specs.Kinds.{kind_of}
-use Rattle.sel_plain.specs.Flat.{Row}
-use Rattle.sel_plain.specs.Table.{kids_cost, both_costs, offered_by}
+use Rattle.sel_plain.specs.Rows.{Row}
+use Rattle.sel_plain.specs.Offers.{kids_cost, both_costs, offered_by}
 use Rattle.sel_forest.specs.Places.{met}
 
 pub kids_cost_unary : (op : ℕ) (p : Boxed Pattern) (nodes : List Node) (rows : List Row) (i : ℕ)
@@ -64,8 +64,8 @@ pub ruleset kind_cases = (kind_nullary, kind_unary, kind_binary)
 pub not_leaf : (p : Pattern) → kind_of p ≡ Operator → (m : ℕ) → p ≡ Leaf m → ⊥
 not_leaf p h m q = let k : Chain ≡ Operator = ap kind_of (sym q) ∙ h in cc
 
-pub by_operator : (p : Pattern) → ((m : ℕ) → p ≡ Leaf m → ⊥) → kind_of p ≡ Operator
-by_operator (Leaf n) h = absurd (h n refl)
-by_operator (Nullary op) h = refl
-by_operator (Unary' op s p) h = refl
-by_operator (Binary' op s p s' q) h = refl
+pub operator_kind : (p : Pattern) → ((m : ℕ) → p ≡ Leaf m → ⊥) → kind_of p ≡ Operator
+operator_kind (Leaf n) h = absurd (h n refl)
+operator_kind (Nullary op) h = refl
+operator_kind (Unary' op s p) h = refl
+operator_kind (Binary' op s p s' q) h = refl

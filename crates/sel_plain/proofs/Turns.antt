@@ -11,10 +11,10 @@ use Rattle.sel_plain.specs.declared.entry.Entry.{Entry}
 use Rattle.sel_plain.specs.declared.kind.RuleKind.{RuleKind}
 use Rattle.sel_plain.specs.declared.kind.RuleKind.TheVariants.{Operator, Chain}
 use Rattle.sel_plain.specs.Kinds.{kind_of}
-use Rattle.sel_plain.specs.Flat.{Row}
-use Rattle.sel_plain.specs.Table.{entry_at, offered, offered_at, offered_by}
-use Rattle.sel_plain.specs.Rows.{Withstands, KindWithstood, IsBettered, Keeps, total_distance, KeepsBacked, offer_entry}
-use Rattle.sel_plain.proofs.Entries.{some_same}
+use Rattle.sel_plain.specs.Rows.{Row, entry_at}
+use Rattle.sel_plain.specs.Offers.{offered, offered_at, offered_by}
+use Rattle.sel_plain.specs.Bettering.{Withstands, KindWithstood, IsBettered, Keeps, total_distance, KeepsBacked, offer_entry}
+use Rattle.sel_forest.proofs.Matching.{some_same}
 use Rattle.sel_plain.proofs.Betters.{AllBacked-bettered, Keeps-bettered, new_same, no_later_self, no_later_trans}
 
 -- what a rule with an operator offers doesn't depend on the row

@@ -13,17 +13,16 @@ use Rattle.sel_grammar.specs.Firsts.{IsKept}
 use Rattle.sel_forest.specs.declared.forest.Node.{Node}
 use Rattle.sel_plain.specs.declared.entry.Entry.{Entry}
 use Rattle.sel_forest.specs.declared.walk.Goal.{Goal}
-use Rattle.sel_plain.specs.Flat.{Row}
-use Rattle.sel_plain.specs.Table.{entry_at, row_at}
-use Rattle.sel_plain.specs.Meaning.{IsBestEntry, AreBestRows}
+use Rattle.sel_plain.specs.Rows.{Row, entry_at, row_at}
+use Rattle.sel_plain.specs.BestRows.{IsBestEntry, AreBestRows}
 use Rattle.sel_forest.specs.Places.{IsRootAt}
-use Rattle.sel_plain.specs.Places.{BestFor, IsHalfWritten, HasRule, WritesRule}
+use Rattle.sel_plain.specs.Writing.{BestFor, IsHalfWritten, HasRule, WritesRule}
 use Rattle.sel_forest.specs.Places.{goals}
 use Rattle.sel_forest.proofs.Matching.{Match, goals_match, within}
 use Rattle.sel_grammar.proofs.Kids.{both_kids, lists-both}
 use Rattle.sel_grammar.proofs.CostLaws.{cheaper_not_both, cheaper_not_same}
 use Rattle.sel_forest.proofs.Lying.{fits_subtrees}
-use Rattle.sel_plain.proofs.Entries.{some_same}
+use Rattle.sel_forest.proofs.Matching.{some_same}
 
 -- the best derivation is one
 before_not_both : (xs ys : List ℕ) → IsBefore xs ys → IsBefore ys xs → ⊥
@@ -69,7 +68,7 @@ module _ (g : Grammar) (nodes : List Node) (rows : List Row) (means : AreBestRow
   -- the table's entry for a goal is the best derivation's
   record IsTop (d : Derivation) : Type 0 where
     tree : PlainTree
-    stands : IsRootAt nodes next.at tree
+    root : IsRootAt nodes next.at tree
     entry : Entry
     there : entry_at (row_at rows next.at) next.nonterminal ≡ Some entry
     kids : Derivations
@@ -77,13 +76,13 @@ module _ (g : Grammar) (nodes : List Node) (rows : List Row) (means : AreBestRow
     same : d ≡ Deriv entry.rule kids
 
   top : (d : Derivation) (t : PlainTree) → IsRootAt nodes next.at t → IsFirst g d next.nonterminal t → IsTop d
-  top d t stands first = go (entry_at (row_at rows next.at) next.nonterminal) refl (means next.at t (within nodes next.at t stands) stands next.nonterminal)
+  top d t root first = go (entry_at (row_at rows next.at) next.nonterminal) refl (means next.at t (within nodes next.at t root) root next.nonterminal)
     where
       go : (o : Option Entry) → entry_at (row_at rows next.at) next.nonterminal ≡ o → IsBestEntry g next.nonterminal t o → IsTop d
       go None e h = absurd (h d first.derives)
       go (Some x) e h = record {
         tree = t;
-        stands = stands;
+        root = root;
         entry = x;
         there = e;
         kids = (h.0).0;
@@ -115,7 +114,7 @@ module _ (g : Grammar) (nodes : List Node) (rows : List Row) (means : AreBestRow
         number_is,
         subst (λ (x : Rule). BestFor g nodes t.kids (goals x.pattern nodes next.at)) rule_is
             (BestFor-match g nodes t.kids (goals t.kept.rule.pattern nodes next.at) (leaves t.kept.rule.pattern) t.kept.subtrees t.kept.firsts
-            (goals_match nodes t.kept.rule.pattern next.at t.tree t.kept.subtrees t.stands (fits_subtrees t.kept.rule t.tree t.kept.subtrees t.kept.fitting))),
+            (goals_match nodes t.kept.rule.pattern next.at t.tree t.kept.subtrees t.root (fits_subtrees t.kept.rule t.tree t.kept.subtrees t.kept.fitting))),
       )
 
   module _ (goal : Goal) (written : List ℕ) (stack : List Goal) (partly : IsHalfWritten g nodes goal written (stack ++ next ∷ [])) where
@@ -136,7 +135,7 @@ module _ (g : Grammar) (nodes : List Node) (rows : List Row) (means : AreBestRow
         ap lists n.are ∙ ap (λ x. list x ++ lists n.ds) n.top_is.same ∙ ap (λ x. (x ∷ lists n.top_is.kids) ++ lists n.ds) (sym p.0) in
         record {
           tree = partly.tree;
-          stands = partly.stands;
+          root = partly.root;
           best = partly.best;
           first = partly.first;
           kids = kids;

@@ -13,7 +13,12 @@ use sel_forest::{Cover, Goal, Tree};
 use sel_grammar::Grammar;
 use std::alloc::Global;
 
-/// The cost and the list of the tree's best derivation from the start symbol, or None where nothing derives it.
+/// The cost of the tree's best derivation from the start symbol, and the numbers of its rules in preorder,
+/// or None where nothing derives the tree. The best derivation costs least, and among those that cost as
+/// much has the list that is first in the order of words.
+///
+/// The nodes are labelled from the leaves up, and the list is read from the root down (BURG manual,
+/// lburg). It takes time for each node and rule, and memory for each node and nonterminal.
 pub fn least(alloc: Global, grammar: &Grammar, tree: &Tree) -> Result<Option<Cover>, NoMemory>
     requires tree { IsTree tree.now }
     requires limits { IsWithinLimits grammar.now }

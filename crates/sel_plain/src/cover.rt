@@ -2,10 +2,10 @@ ghost use Rattle.std.specs.Prelude.{◌≡◌, ◌++◌, ◌∷◌, [], ℕ, ◌
 ghost use Rattle.std.specs.Option.{option_copied};
 ghost use Rattle.sel_grammar.specs.declared.grammar.Rule.{Rule};
 ghost use Rattle.sel_grammar.specs.Fits.{rule_at};
-ghost use Rattle.sel_plain.specs.Meaning.{AreBestRows};
-ghost use Rattle.sel_plain.specs.Places.{IsHalfWritten, HasRule, WritesRule};
+ghost use Rattle.sel_plain.specs.BestRows.{AreBestRows};
+ghost use Rattle.sel_plain.specs.Writing.{IsHalfWritten, HasRule, WritesRule};
 ghost use Rattle.sel_forest.specs.Places.{goals};
-ghost use Rattle.sel_plain.specs.Table.{entry_at, row_at};
+ghost use Rattle.sel_plain.specs.Rows.{entry_at, row_at};
 
 use crate::entry::Entry;
 use crate::table::Table;

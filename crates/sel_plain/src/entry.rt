@@ -1,5 +1,5 @@
 ghost use Rattle.std.specs.Prelude.{◌↔◌, IsTrue};
-ghost use Rattle.sel_plain.specs.Rows.{IsNoLater};
+ghost use Rattle.sel_plain.specs.Bettering.{IsNoLater};
 
 use crate::cost::is_cheaper;
 use sel_base::Pair;

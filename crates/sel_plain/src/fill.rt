@@ -1,7 +1,7 @@
 ghost use Rattle.std.specs.Prelude.{◌≡◌, ◌<◌, ◌≤◌, ◌^◌, length, IfOk};
 ghost use Rattle.sel_grammar.specs.Chains.{HasNoFreeCycle};
 ghost use Rattle.sel_grammar.specs.Limits.{IsWithinLimits};
-ghost use Rattle.sel_plain.specs.Meaning.{AreBestRows};
+ghost use Rattle.sel_plain.specs.BestRows.{AreBestRows};
 ghost use Rattle.sel_forest.specs.Places.{SizesBelow};
 
 use crate::row::close_row;

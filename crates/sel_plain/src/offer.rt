@@ -1,5 +1,6 @@
 ghost use Rattle.std.specs.Prelude.{◌≡◌, ◌<◌, length, slice_get, Some};
-ghost use Rattle.sel_plain.specs.Table.{kids_cost, entry_at, row_at, cost_of, both_costs, offered, offered_by};
+ghost use Rattle.sel_plain.specs.Rows.{entry_at, row_at, cost_of};
+ghost use Rattle.sel_plain.specs.Offers.{kids_cost, both_costs, offered, offered_by};
 
 use crate::cost::{capped_sum, no_cost};
 use crate::entry::Entry;
@@ -28,12 +29,7 @@ fn both_costs(first: Option<Pair>, second: Option<Pair>) -> Option<Pair>
 
 /// What the best derivations for the pattern's nonterminals cost, where it lies over the node.
 #[tactic(auto, using(crate::proofs::Patterns::kids_cost_cases))]
-pub fn kids_cost(
-    pattern: &Pattern,
-    nodes: &[Node],
-    table: &Table,
-    at: usize,
-) -> Option<Pair>
+pub fn kids_cost(pattern: &Pattern, nodes: &[Node], table: &Table, at: usize) -> Option<Pair>
     ensures { result ≡ kids_cost pattern.now nodes.now table.now.rows at }
 {
     match pattern {

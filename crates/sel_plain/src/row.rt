@@ -1,9 +1,14 @@
 ghost use Rattle.std.specs.Prelude.{◌≡◌, ◌<◌, ◌≤◌, ◌+◌, ◌*◌, ◌^◌, ◌↔◌, ℕ, List, length, slice_get, Some, IsTrue, IfOk, true, false, None, replicate};
 ghost use Rattle.sel_grammar.specs.declared.grammar.Rule.{Rule};
+ghost use Rattle.sel_grammar.specs.PlainTrees.{PlainTree};
+ghost use Rattle.sel_grammar.specs.Chains.{HasNoFreeCycle};
 ghost use Rattle.sel_grammar.specs.Limits.{IsWithinLimits};
+ghost use Rattle.sel_forest.specs.Places.{IsRootAt, SizesBelow};
+ghost use Rattle.sel_plain.specs.BestRows.{IsBestRow, AreBestRows};
 ghost use Rattle.sel_plain.specs.Kinds.{kind_of};
-ghost use Rattle.sel_plain.specs.Table.{entry_at, offered};
-ghost use Rattle.sel_plain.specs.Rows.{IsNoLater, Withstands, IsBettered, KindWithstood, Keeps, AllBacked, OperatorOffers, total_distance, KeepsBacked, IsSettled};
+ghost use Rattle.sel_plain.specs.Rows.{entry_at};
+ghost use Rattle.sel_plain.specs.Offers.{offered};
+ghost use Rattle.sel_plain.specs.Bettering.{IsNoLater, Withstands, IsBettered, KindWithstood, Keeps, AllBacked, OperatorOffers, total_distance, KeepsBacked};
 
 use crate::cost::{capped_sum, paid};
 use crate::entry::{Entry, is_no_later};
@@ -125,8 +130,11 @@ pub fn close_row(
     at: usize,
 )
     requires limits { IsWithinLimits grammar.now }
+    requires free { HasNoFreeCycle grammar.now }
+    requires sizes { SizesBelow nodes.now (2 ^ 32) }
+    requires lower { AreBestRows grammar.now nodes.now table.now.rows at }
     requires long { length row.old ≡ length grammar.now.nonterminals }
-    ensures { IsSettled grammar.now nodes.now table.now.rows row.new at }
+    ensures { (t : PlainTree) → IsRootAt nodes.now at t → IsBestRow grammar.now t row.new }
 {
     clear(row);
     offer_all(RuleKind::Operator, grammar, nodes, table, row, at);

@@ -1,5 +1,5 @@
 ghost use Rattle.std.specs.Prelude.{◌≡◌, ◌<◌, ◌+◌, ◌*◌, ◌++◌, ◌∷◌, [], length, OnOk, OnErr};
-ghost use Rattle.sel_plain.specs.Table.{entry_at, row_at};
+ghost use Rattle.sel_plain.specs.Rows.{entry_at, row_at};
 
 use crate::entry::Entry;
 use sel_base::NoMemory;
@@ -16,7 +16,7 @@ pub struct Table {
 
 impl Model for Table {
     ghost use Rattle.std.specs.Prelude.{◌≡◌, ◌*◌, length};
-    ghost use Rattle.sel_plain.specs.Flat.{Rows, rows_of};
+    ghost use Rattle.sel_plain.specs.Rows.{Rows, rows_of};
 
     ghost Value = { Rows };
 

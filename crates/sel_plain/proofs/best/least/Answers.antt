@@ -7,26 +7,26 @@ use Rattle.sel_plain.proofs.best.least.Goals as goal
 
 pub filled-requires-clause-sizes : goal.filled-requires-clause-sizes
 filled-requires-clause-sizes c =
-    let (t, spells, small) = c.requires.tree in
-    SizesBelow-spelled c.as_slice-nodes.result.now t (2 ^ 32) (c.as_slice-nodes.ensures ∙ spells) (omega arith)
+    let (t, postorder, small) = c.requires.tree in
+    SizesBelow-spelled c.as_slice-nodes.result.now t (2 ^ 32) (c.as_slice-nodes.ensures ∙ postorder) (omega arith)
 
 pub overflow_sub-goal : goal.overflow_sub-goal
-overflow_sub-goal c = let (t, spells, small) = c.requires.tree in some_node c.as_slice-nodes.result.now t (c.as_slice-nodes.ensures ∙ spells)
+overflow_sub-goal c = let (t, postorder, small) = c.requires.tree in some_node c.as_slice-nodes.result.now t (c.as_slice-nodes.ensures ∙ postorder)
 
 pub returns-in-None : goal.returns-in-None
-returns-in-None c = λ t spells.
-    root_none c.args.grammar.now c.as_slice-nodes.result.now c.in_ok-table.table.rows t (c.as_slice-nodes.ensures ∙ spells)
+returns-in-None c = λ t postorder.
+    root_none c.args.grammar.now c.as_slice-nodes.result.now c.in_ok-table.table.rows t (c.as_slice-nodes.ensures ∙ postorder)
     c.in_ok-table.ensures c.in-None.ensures
 
 pub written-requires-clause-best : goal.written-requires-clause-best
 written-requires-clause-best c =
-    let (t, spells, small) = c.requires.tree in
-    root_partly c.args.grammar.now c.as_slice-nodes.result.now c.in_ok-table.table.rows t (c.as_slice-nodes.ensures ∙ spells)
+    let (t, postorder, small) = c.requires.tree in
+    root_partly c.args.grammar.now c.as_slice-nodes.result.now c.in_ok-table.table.rows t (c.as_slice-nodes.ensures ∙ postorder)
     c.in_ok-table.ensures c.in-Some.entry c.in-Some.ensures
 
 pub returns : goal.returns
-returns c = λ t spells.
-    let made = root_best c.args.grammar.now c.as_slice-nodes.result.now c.in_ok-table.table.rows t (c.as_slice-nodes.ensures ∙ spells)
+returns c = λ t postorder.
+    let made = root_best c.args.grammar.now c.as_slice-nodes.result.now c.in_ok-table.table.rows t (c.as_slice-nodes.ensures ∙ postorder)
     c.in_ok-table.ensures
     c.in-Some.entry c.in_ok-rules-in-Some.rules.items c.in-Some.ensures c.in_ok-rules-in-Some.ensures in
     subst (λ rules. IsBestCover c.args.grammar.now t (record { cost = c.in-Some.entry.cost; rules = rules })) (sym c.from_vec.ensures) made

@@ -1,6 +1,6 @@
 -- Each turn writes the top goal's rule.
 use Rattle.std.proofs.Common.{◌++◌, ◌∷◌, [], subst}
-use Rattle.sel_plain.specs.Places.{IsHalfWritten}
+use Rattle.sel_plain.specs.Writing.{IsHalfWritten}
 use Rattle.sel_plain.proofs.Writing.{top_rule, IsHalfWritten-step}
 use Rattle.sel_plain.proofs.cover.written.Goals as goal
 

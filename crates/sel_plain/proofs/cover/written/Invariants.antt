@@ -1,5 +1,5 @@
 use Rattle.std.proofs.Common.{◌-◌, ◌^◌, vec_len}
-use Rattle.sel_plain.specs.Places.{IsHalfWritten}
+use Rattle.sel_plain.specs.Writing.{IsHalfWritten}
 use Rattle.sel_plain.proofs.cover.written.Given as goal
 
 abbrev pub invariant-loop-next : goal.invariant-loop-next

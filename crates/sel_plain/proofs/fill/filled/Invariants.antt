@@ -1,5 +1,5 @@
 use Rattle.std.proofs.Common.{◌≡◌, length}
-use Rattle.sel_plain.specs.Meaning.{AreBestRows}
+use Rattle.sel_plain.specs.BestRows.{AreBestRows}
 use Rattle.sel_plain.proofs.fill.filled.Given as goal
 
 abbrev pub invariant-loop-at : goal.invariant-loop-at

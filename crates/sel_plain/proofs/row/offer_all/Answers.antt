@@ -2,7 +2,7 @@
 use Rattle.std.proofs.Common.{arith, ◌≡◌, ◌<◌, ◌+◌, length, slice_get, Some, sym, ap, ◌∙◌, refl, subst}
 use Rattle.std.proofs.lemmas.Option.{slice_get_read, slice_get_within}
 use Rattle.sel_plain.specs.declared.kind.RuleKind.TheVariants.{Operator}
-use Rattle.sel_plain.specs.Rows.{Keeps, total_distance, KeepsBacked}
+use Rattle.sel_plain.specs.Bettering.{Keeps, total_distance, KeepsBacked}
 use Rattle.sel_plain.proofs.Turns.{KindTo, KindTo-more, Operators-bettered, KeepsBacked-bettered, long_more, falls_more}
 use Rattle.sel_plain.proofs.Betters.{total_distance-bettered, Keeps-bettered, Keeps-trans}
 use Rattle.sel_plain.proofs.row.offer_all.Goals as goal

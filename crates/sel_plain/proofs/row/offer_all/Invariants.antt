@@ -1,6 +1,6 @@
 use Rattle.std.proofs.Common.{◌≡◌, ◌<◌, true, false, length}
 use Rattle.sel_plain.specs.declared.kind.RuleKind.TheVariants.{Operator}
-use Rattle.sel_plain.specs.Rows.{Keeps, total_distance, KeepsBacked}
+use Rattle.sel_plain.specs.Bettering.{Keeps, total_distance, KeepsBacked}
 use Rattle.sel_plain.proofs.Turns.{KindTo}
 use Rattle.sel_plain.proofs.row.offer_all.Given as goal
 

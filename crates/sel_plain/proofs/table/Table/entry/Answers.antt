@@ -1,8 +1,7 @@
 -- The entry's place in the one list.
 use Rattle.std.proofs.Common.{◌+◌, ◌*◌, ◌∙◌, sym, ap}
-use Rattle.sel_plain.specs.Flat.{Rows}
-use Rattle.sel_plain.specs.Table.{entry_at, row_at}
-use Rattle.sel_plain.proofs.FlatLaws.{entry_rows, entry_rows_past, entry_rows_beside}
+use Rattle.sel_plain.specs.Rows.{Rows, entry_at, row_at}
+use Rattle.sel_plain.proofs.RowLaws.{entry_rows, entry_rows_past, entry_rows_beside}
 use Rattle.sel_plain.proofs.table.Table.entry.Goals as goal
 use Rattle.sel_plain.proofs.table.Table.entry.Goals.{else-at-self-via-then-at-self+else-nonterminal-self, else-at-self-via-else-at-self}
 

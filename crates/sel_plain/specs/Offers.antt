@@ -1,31 +1,14 @@
--- What the table of entries says of a pattern at a node.
-use Rattle.std.specs.Prelude.{ℕ, if◌then◌else◌, Option, Some, None,  List, [], slice_get}
-use Rattle.std.specs.Option.{option_and_then, option_flatten}
+-- What a rule offers at a node: the cost of its kids by the rows of lower nodes, and by the node's own row where it is a chain rule.
+use Rattle.std.specs.Prelude.{ℕ, if◌then◌else◌, Option, Some, None, List, slice_get}
+use Rattle.std.specs.Option.{option_and_then}
 use Rattle.sel_grammar.specs.declared.grammar.Pattern.{Pattern, Leaf, Nullary, Unary', Binary', end_of-Pattern, more_of-Pattern}
 use Rattle.sel_grammar.specs.declared.grammar.Rule.{Rule}
 use Rattle.sel_grammar.specs.Fits.{in_range}
 use Rattle.sel_grammar.specs.Costs.{Cost, no_cost}
 use Rattle.sel_forest.specs.declared.forest.Node.{Node}
 use Rattle.sel_forest.specs.Places.{met}
-use Rattle.sel_plain.specs.declared.entry.Entry.{Entry}
-use Rattle.sel_plain.specs.Flat.{Row}
+use Rattle.sel_plain.specs.Rows.{Row, entry_at, row_at, cost_of}
 use Rattle.sel_plain.specs.CostBounds.{capped_sum}
-
--- the entry of a nonterminal in a row
-abbrev pub entry_at : Row → ℕ → Option Entry
-entry_at row n = option_flatten (slice_get row n)
-
-abbrev pub cost_of : Option Entry → Option Cost
-cost_of None = None
-cost_of (Some e) = Some (e.cost)
-
--- the row of a node
-abbrev pub row_or_none : Option Row → Row
-row_or_none None = []
-row_or_none (Some row) = row
-
-abbrev pub row_at : List Row → ℕ → Row
-row_at rows i = row_or_none (slice_get rows i)
 
 -- the sum of both, where there are both
 abbrev pub both_costs : Option Cost → Option Cost → Option Cost
@@ -40,7 +23,7 @@ kids_cost (Unary' op s (more_of-Pattern p end_of-Pattern)) nodes rows i = option
 kids_cost (Binary' op s (more_of-Pattern p end_of-Pattern) s' (more_of-Pattern q end_of-Pattern)) nodes rows i =
     option_and_then (λ node. both_costs (kids_cost p nodes rows node.left) (kids_cost q nodes rows node.right)) (met (slice_get nodes i) op 2)
 
--- as `kids_cost`, where a pattern that is a nonterminal is kids_cost by the node's own row
+-- the same, but that a pattern that is a nonterminal asks the node's own row
 abbrev pub offered_by : Pattern → List Node → List Row → Row → ℕ → Option Cost
 offered_by (Leaf n) nodes rows row i = cost_of (entry_at row n)
 offered_by p nodes rows row i = kids_cost p nodes rows i

@@ -1,4 +1,4 @@
--- A price stands for the best kids.
+-- A price root for the best kids.
 use Rattle.std.proofs.Common.{◌≡◌, ℕ, ◌+◌, ◌-◌, ◌*◌, ◌<◌, ◌≤◌, ◌⊎◌, inl, inr, Bool, true, false, ◌==◌, if◌then◌else◌, List, [], ◌∷◌, ◌++◌, length, refl, ap, sym, ◌∙◌, subst, arith, Option, Some, None, slice_get, length-append, ◌^◌}
 use Rattle.std.specs.Option.{option_and_then}
 use Rattle.std.proofs.lemmas.Bool.Decides.{nat_tests}
@@ -17,10 +17,11 @@ use Rattle.sel_plain.proofs.CostBoundLaws.{capped_exact, IsUpTo-wider, IsUpTo-sa
 use Rattle.sel_grammar.specs.Firsts.{AllFirst}
 use Rattle.sel_forest.specs.declared.forest.Node.{Node}
 use Rattle.sel_plain.specs.declared.entry.Entry.{Entry}
-use Rattle.sel_plain.specs.Flat.{Row}
-use Rattle.sel_plain.specs.Table.{entry_at, row_at, cost_of, both_costs, kids_cost}
-use Rattle.sel_plain.proofs.Entries.{some_same, some_none, same_or_other}
-use Rattle.sel_plain.specs.Meaning.{IsBestEntry, IsBestRow, AreBestRows, per_node}
+use Rattle.sel_plain.specs.Rows.{Row, entry_at, row_at, cost_of}
+use Rattle.sel_plain.specs.Offers.{both_costs, kids_cost}
+use Rattle.sel_forest.proofs.Matching.{some_same, some_none}
+use Rattle.sel_plain.proofs.Entries.{same_or_other}
+use Rattle.sel_plain.specs.BestRows.{IsBestEntry, IsBestRow, AreBestRows, per_node}
 use Rattle.sel_forest.specs.Places.{IsRootAt, met}
 use Rattle.sel_grammar.proofs.Kids.{both_kids, costs-both, AllFirst-both, DeriveAll-split}
 
@@ -148,7 +149,6 @@ lift_binary g whole p q op a u v (Some b) (Some c) few lies same h k = record {
   where
     exact : capped_sum b c ≡ b ⊕ c
     exact = capped_exact (per_node * room p u) (per_node * room q v) b c h.small k.small (let r = room_le p u in let r' = room_le q v in omega arith)
-
 lift_binary g whole p q op a u v None y few lies same h k = λ ts e es all. split (subtrees p u) (subtrees q v) refl refl ts (sym lies ∙ e) es (subst (λ ns. DeriveAll g es ns ts) same all)
   where
     split : (x y : Option (List PlainTree)) → subtrees p u ≡ x → subtrees q v ≡ y → (ts : List PlainTree) → joined x y ≡ Some ts → (es : Derivations) → DeriveAll g es (leaves p ++ leaves q) ts → ⊥
@@ -221,24 +221,24 @@ module _ (g : Grammar) (nodes : List Node) (rows : List Row) (m : ℕ) (low : Ar
   unary : (o : ℕ) (s : Shape) (p : Pattern) (i op : ℕ) (a : Attribute) (u : PlainTree) (node : Node) → Good p → i ≤ m → size (Node1 op a u) < 2 ^ 32 → slice_get nodes i ≡ Some node → node.operator ≡ op → node.kids ≡ 1
       → node.left < i → IsRootAt nodes node.left u → (o ≡ op) ⊎ (o ≡ op → ⊥)
       → IsKidsCost g (Unary' o s (more_of-Pattern p end_of-Pattern)) (Node1 op a u) (size (Node1 op a u) - 1) (kids_cost (Unary' o s (more_of-Pattern p end_of-Pattern)) nodes rows i)
-  unary o s p i op a u node good le few get is kids lt stands (inl e) =
+  unary o s p i op a u node good le few get is kids lt root (inl e) =
       match_is (Unary' o s (more_of-Pattern p end_of-Pattern)) (Node1 op a u) i o 1 (size (Node1 op a u) - 1) node (λ node. kids_cost p nodes rows node.left) refl get (is ∙ sym e) kids
       (lift_unary g (Unary' o s (more_of-Pattern p end_of-Pattern)) p op a u (kids_cost p nodes rows node.left) (if_true (o == op) (subtrees p u) None (same_test o op e)) refl
-      (below p good i node.left u le lt (omega arith) stands))
-  unary o s p i op a u node good le few get is kids lt stands (inr d) =
+      (below p good i node.left u le lt (omega arith) root))
+  unary o s p i op a u node good le few get is kids lt root (inr d) =
       mismatch (Unary' o s (more_of-Pattern p end_of-Pattern)) (Node1 op a u) i o 1 (size (Node1 op a u) - 1) node (λ node. kids_cost p nodes rows node.left) refl get (inl (λ q. d (sym q ∙ is)))
       (if_false (o == op) (subtrees p u) None (other_test o op d))
 
   binary : (o : ℕ) (s s' : Shape) (p q : Pattern) (i op : ℕ) (a : Attribute) (u v : PlainTree) (node : Node) → Good p → Good q → i ≤ m → size (Node2 op a u v) < 2 ^ 32 → slice_get nodes i ≡ Some node → node.operator ≡ op → node.kids ≡ 2
       → node.left < i → node.right < i → IsRootAt nodes node.left u → IsRootAt nodes node.right v → (o ≡ op) ⊎ (o ≡ op → ⊥)
       → IsKidsCost g (Binary' o s (more_of-Pattern p end_of-Pattern) s' (more_of-Pattern q end_of-Pattern)) (Node2 op a u v) (size (Node2 op a u v) - 1) (kids_cost (Binary' o s (more_of-Pattern p end_of-Pattern) s' (more_of-Pattern q end_of-Pattern)) nodes rows i)
-  binary o s s' p q i op a u v node good good' le few get is kids lt lt' stands stands' (inl e) =
+  binary o s s' p q i op a u v node good good' le few get is kids lt lt' root root' (inl e) =
       match_is (Binary' o s (more_of-Pattern p end_of-Pattern) s' (more_of-Pattern q end_of-Pattern)) (Node2 op a u v) i o 2 (size (Node2 op a u v) - 1) node
       (λ node. both_costs (kids_cost p nodes rows node.left) (kids_cost q nodes rows node.right)) refl get (is ∙ sym e) kids
       (lift_binary g (Binary' o s (more_of-Pattern p end_of-Pattern) s' (more_of-Pattern q end_of-Pattern)) p q op a u v (kids_cost p nodes rows node.left) (kids_cost q nodes rows node.right) few
       (if_true (o == op) (joined (subtrees p u) (subtrees q v)) None (same_test o op e)) refl
-      (below p good i node.left u le lt (omega arith) stands) (below q good' i node.right v le lt' (omega arith) stands'))
-  binary o s s' p q i op a u v node good good' le few get is kids lt lt' stands stands' (inr d) =
+      (below p good i node.left u le lt (omega arith) root) (below q good' i node.right v le lt' (omega arith) root'))
+  binary o s s' p q i op a u v node good good' le few get is kids lt lt' root root' (inr d) =
       mismatch (Binary' o s (more_of-Pattern p end_of-Pattern) s' (more_of-Pattern q end_of-Pattern)) (Node2 op a u v) i o 2 (size (Node2 op a u v) - 1) node
       (λ node. both_costs (kids_cost p nodes rows node.left) (kids_cost q nodes rows node.right)) refl get (inl (λ q. d (sym q ∙ is)))
       (if_false (o == op) (joined (subtrees p u) (subtrees q v)) None (other_test o op d))

@@ -5,8 +5,7 @@ use Rattle.std.proofs.Math.Seq.{take-length}
 use Rattle.std.specs.Option.{option_flatten}
 use Rattle.std.proofs.lemmas.List.{length-take, length-drop, take-append-le, drop-append-le}
 use Rattle.std.proofs.lemmas.Option.{slice_get_past}
-use Rattle.sel_plain.specs.Flat.{Row, rows_of}
-use Rattle.sel_plain.specs.Table.{entry_at, row_at, row_or_none}
+use Rattle.sel_plain.specs.Rows.{Row, rows_of, entry_at, row_at, row_or_none}
 
 pub length-rows_of : (count width : ℕ) (xs : Row) → length (rows_of count width xs) ≡ count
 length-rows_of zero width xs = refl

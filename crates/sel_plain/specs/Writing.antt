@@ -10,8 +10,7 @@ use Rattle.sel_forest.specs.declared.forest.Node.{Node}
 use Rattle.sel_forest.specs.Places.{goals}
 use Rattle.sel_plain.specs.declared.entry.Entry.{Entry}
 use Rattle.sel_forest.specs.declared.walk.Goal.{Goal}
-use Rattle.sel_plain.specs.Flat.{Row}
-use Rattle.sel_plain.specs.Table.{entry_at, row_at}
+use Rattle.sel_plain.specs.Rows.{Row, entry_at, row_at}
 use Rattle.sel_forest.specs.Places.{IsRootAt}
 
 -- best derivations for goals
@@ -23,7 +22,7 @@ BestFor g nodes _ _ = ⊥
 -- a best derivation whose list is what is written and then the lists for the goals of the stack, its last goal first
 pub record IsHalfWritten (g : Grammar) (nodes : List Node) (goal : Goal) (written : List ℕ) (stack : List Goal) : Type 0 where
   pub tree : PlainTree
-  pub stands : IsRootAt nodes goal.at tree
+  pub root : IsRootAt nodes goal.at tree
   pub best : Derivation
   pub first : IsFirst g best goal.nonterminal tree
   pub kids : Derivations

@@ -1,4 +1,4 @@
--- What rows of entries mean.
+-- Rows that hold the best derivations.
 use Rattle.std.specs.Prelude.{ℕ, ◌*◌, ◌<◌, Option, Some, None, List}
 use Rattle.sel_grammar.specs.declared.grammar.Grammar.{Grammar}
 use Rattle.sel_grammar.specs.PlainTrees.{PlainTree, size}
@@ -9,8 +9,7 @@ use Rattle.sel_forest.specs.declared.forest.Node.{Node}
 use Rattle.sel_forest.specs.Places.{IsRootAt}
 use Rattle.sel_plain.specs.declared.entry.Entry.{Entry}
 use Rattle.sel_plain.specs.CostBounds.{IsUpTo}
-use Rattle.sel_plain.specs.Flat.{Row}
-use Rattle.sel_plain.specs.Table.{entry_at, row_at}
+use Rattle.sel_plain.specs.Rows.{Row, entry_at, row_at}
 
 -- more than the rules at one node of a best derivation cost together, by either number
 abbrev pub per_node : ℕ
@@ -21,9 +20,10 @@ abbrev pub IsBestEntry : Grammar → ℕ → PlainTree → Option Entry → Type
 IsBestEntry g n t None = HasNone g n t
 IsBestEntry g n t (Some e) = ((ds : Derivations) × IsKept g t n e.cost e.rule ds) × IsUpTo (per_node * size t) e.cost
 
+-- and so for each nonterminal
 abbrev pub IsBestRow : Grammar → PlainTree → Row → Type 0
 IsBestRow g t row = (n : ℕ) → IsBestEntry g n t (entry_at row n)
 
--- the rows of the first m nodes mean what they should
+-- the first m nodes have such rows
 abbrev pub AreBestRows : Grammar → List Node → List Row → ℕ → Type 0
 AreBestRows g nodes rows m = (i : ℕ) (t : PlainTree) → i < m → IsRootAt nodes i t → IsBestRow g t (row_at rows i)
