@@ -57,7 +57,7 @@ length-postorder (Node2 op a t u) base =
     let k = length-postorder u (base + size t) in
     omega (arith, length-append (postorder base t) (postorder (base + size t) u ++ n ∷ []), length-append (postorder (base + size t) u) (n ∷ []))
 
-size_some : (t : PlainTree) → 1 ≤ size t
+pub size_some : (t : PlainTree) → 1 ≤ size t
 size_some (Node0 op a) = omega arith
 size_some (Node1 op a t) = omega arith
 size_some (Node2 op a t u) = omega arith

@@ -10,4 +10,4 @@ mod walk;
 pub use forest::{Cover, Forest, Node, Tree};
 pub use refusal::{ForestFault, ForestRefusal};
 pub use sel_grammar::Attribute;
-pub use walk::{Goal, fits_at, node_at, push_goals, rule_of};
+pub use walk::{Goal, fits_at, in_range, met, node_at, push_goals, rule_of};

@@ -1,0 +1,12 @@
+pub mod CostBoundLaws
+pub mod Patterns
+pub mod KidsCosts
+pub mod Entries
+pub mod RowLaws
+pub mod Counts
+pub mod Betters
+pub mod Turns
+pub mod Closing
+pub mod Tables
+pub mod Writing
+pub mod Answer
