@@ -6,3 +6,4 @@ pub mod Ranks
 pub mod Examples
 pub mod One
 pub mod Kids
+pub mod PlainExamples

@@ -8,3 +8,5 @@ pub mod Chains
 pub mod Laws
 pub mod Expansions
 pub mod Limits
+pub mod PlainText
+pub mod PlainForm
