@@ -7,3 +7,5 @@ pub mod Examples
 pub mod One
 pub mod Kids
 pub mod PlainExamples
+pub mod PlainNames
+pub mod PlainLines

@@ -10,3 +10,4 @@ pub mod Expansions
 pub mod Limits
 pub mod PlainText
 pub mod PlainForm
+pub mod PlainReading
