@@ -9,3 +9,4 @@ pub mod Kids
 pub mod PlainExamples
 pub mod PlainNames
 pub mod PlainLines
+pub mod PlainTexts

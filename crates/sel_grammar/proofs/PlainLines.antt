@@ -13,7 +13,7 @@ use Rattle.sel_grammar.specs.PlainReading.{Read, and_then, behind, read_name, re
 use Rattle.sel_grammar.proofs.PlainNames.{Stops, both, and_both, stepped, Found, itself, behind_word, word_front, name_found, name_read, integer_found, integer_read, name_before_found, name_before_read}
 
 -- a step that goes one way where the word isn't there, and another way where it is
-by_word : {X P : Type 0} (o : Option (List ℕ)) (absent : Option X) (some : List ℕ → Option X) (y : X)
+pub by_word : {X P : Type 0} (o : Option (List ℕ)) (absent : Option X) (some : List ℕ → Option X) (y : X)
     → elim o [ None ↦ absent | Some rest ↦ some rest ] ≡ Some y → (o ≡ None → absent ≡ Some y → P) → ((rest : List ℕ) → o ≡ Some rest → some rest ≡ Some y → P) → P
 by_word None absent some y h k l = k refl h
 by_word (Some rest) absent some y h k l = l rest refl h
