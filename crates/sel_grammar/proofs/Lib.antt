@@ -10,3 +10,4 @@ pub mod PlainExamples
 pub mod PlainNames
 pub mod PlainLines
 pub mod PlainTexts
+pub mod PlainDigits

@@ -1,6 +1,9 @@
 //! The plain form of a grammar's text: a line of operators, `%%`, and a line for each rule, whose
 //! pattern is one operator over nonterminals.
 
+mod lexis;
+mod lines;
+
 use sel_base::{List, Name};
 
 /// The bytes of a number, one or more decimal digits.
