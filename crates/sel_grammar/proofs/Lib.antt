@@ -11,3 +11,4 @@ pub mod PlainNames
 pub mod PlainLines
 pub mod PlainTexts
 pub mod PlainDigits
+pub mod PlainSteps

@@ -3,6 +3,7 @@
 
 mod lexis;
 mod lines;
+mod texts;
 
 use sel_base::{List, Name};
 
