@@ -12,3 +12,4 @@ pub mod PlainLines
 pub mod PlainTexts
 pub mod PlainDigits
 pub mod PlainSteps
+pub mod PlainNumbers

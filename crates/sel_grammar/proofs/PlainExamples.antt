@@ -48,7 +48,7 @@ says = refl
 is_plain : IsPlain text
 is_plain = record {
   an_entry = omega arith; a_rule = omega arith; few_entries = omega arith; few_rules = omega arith; few_nonterminals = omega arith;
-  entries = refl; rules = refl; apart = refl; declared = refl; others = refl; alike = refl; ruled = refl;
+  entries = refl; rules = refl; apart = refl; lawful = refl;
 }
 
 pub spells : SpellsGrammar bytes grammar

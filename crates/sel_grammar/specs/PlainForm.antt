@@ -1,5 +1,5 @@
 -- Which lines make a text of the plain form, and which grammar they say.
-use Rattle.std.specs.Prelude.{◌≡◌, ℕ, ◌+◌, ◌≤◌, Bool, true, false, ◌||◌, ◌==◌, if◌then◌else◌, Option, Some, None, List, [], ◌∷◌, ◌++◌, length, map, flat_map, bytes_eq}
+use Rattle.std.specs.Prelude.{◌≡◌, ℕ, ◌+◌, ◌≤◌, Bool, true, false, ◌||◌, ◌&&◌, not, ◌==◌, if◌then◌else◌, Option, Some, None, List, [], ◌∷◌, ◌++◌, length, map, flat_map, bytes_eq}
 use Rattle.std.specs.List.{list_all, list_any, position_or_len}
 use Rattle.std.specs.Str.Parse.{digits_value}
 use Rattle.sel_grammar.specs.declared.grammar.Grammar.{Grammar}
@@ -56,9 +56,13 @@ abbrev pub is_number : Option ℕ → ℕ → Bool
 is_number None n = false
 is_number (Some m) n = m == n
 
--- The rule gives its operator as many kids as the operator's first use does.
-abbrev pub is_used_alike : List PlainRule → PlainRule → Bool
-is_used_alike rules rule = is_number (first_use rules rule.operator) (length (kid_names rule.kids))
+-- The rule's operator is declared and has as many kids as at its first use, no other name of the rule is an operator, and each kid is the left name of a rule.
+abbrev pub is_lawful_rule : PlainText → PlainRule → Bool
+is_lawful_rule text rule =
+    is_among (operator_names text) rule.operator
+    && is_number (first_use text.rules rule.operator) (length (kid_names rule.kids))
+    && not (list_any (is_among (operator_names text)) (named_by rule))
+    && list_all (is_among (left_names text)) (kid_names rule.kids)
 
 -- What makes the lines a text of the plain form.
 pub record IsPlain (text : PlainText) : Type 0 where
@@ -70,10 +74,7 @@ pub record IsPlain (text : PlainText) : Type 0 where
   pub entries : list_all is_plain_entry text.entries ≡ true
   pub rules : list_all is_plain_rule text.rules ≡ true
   pub apart : has_twice (operator_names text) ≡ false
-  pub declared : list_all (λ rule. is_among (operator_names text) rule.operator) text.rules ≡ true
-  pub others : list_any (is_among (operator_names text)) (named text) ≡ false
-  pub alike : list_all (is_used_alike text.rules) text.rules ≡ true
-  pub ruled : list_all (is_among (left_names text)) (named text) ≡ true
+  pub lawful : list_all (is_lawful_rule text) text.rules ≡ true
 
 -- a name's number is its place
 abbrev pub number_of : List (List ℕ) → List ℕ → ℕ

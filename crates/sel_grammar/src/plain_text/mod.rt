@@ -1,8 +1,10 @@
 //! The plain form of a grammar's text: a line of operators, `%%`, and a line for each rule, whose
 //! pattern is one operator over nonterminals.
 
+mod checks;
 mod lexis;
 mod lines;
+mod names;
 mod texts;
 
 use sel_base::{List, Name};
