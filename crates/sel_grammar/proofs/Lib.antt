@@ -13,3 +13,4 @@ pub mod PlainTexts
 pub mod PlainDigits
 pub mod PlainSteps
 pub mod PlainNumbers
+pub mod PlainMeaning

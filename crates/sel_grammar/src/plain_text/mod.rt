@@ -4,6 +4,7 @@
 mod checks;
 mod lexis;
 mod lines;
+mod meaning;
 mod names;
 mod texts;
 

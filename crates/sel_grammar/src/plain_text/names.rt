@@ -65,3 +65,43 @@ pub fn kid_count(kids: &PlainKids) -> u8
         PlainKids::Two(_, _) => 2,
     }
 }
+
+/// Puts the name at the end where it is new.
+fn add_name(alloc: Global, names: &mut Vec<Name>, name: &[u8]) -> Result<(), NoMemory>
+    ensures { OnOk result (names.new.items ≡ form.with_new names.old.items (name.now ∷ [])) }
+{
+    if name_number(names.as_slice(), name) == names.len() {
+        let kept = List::from_vec(Vec::from_slice(alloc, name)?);
+        names.push(kept)?;
+    }
+    Ok(())
+}
+
+/// Puts what the rule names beside its operator at the end, where it is new.
+fn add_names(alloc: Global, names: &mut Vec<Name>, rule: &PlainRule) -> Result<(), NoMemory>
+    ensures { OnOk result (names.new.items ≡ form.with_new names.old.items (form.named_by rule.now)) }
+{
+    add_name(alloc, names, rule.left.as_slice())?;
+    match &rule.kids {
+        PlainKids::Absent => {}
+        PlainKids::One(a) => add_name(alloc, names, a.as_slice())?,
+        PlainKids::Two(a, b) => {
+            add_name(alloc, names, a.as_slice())?;
+            add_name(alloc, names, b.as_slice())?;
+        }
+    }
+    Ok(())
+}
+
+/// The nonterminals in the order in which the rules first name them.
+pub fn nonterminals_of(alloc: Global, rules: &[PlainRule]) -> Result<Vec<Name>, NoMemory>
+    ensures { IfOk result (λ names. names.items ≡ form.with_new [] (flat_map form.named_by rules.now)) }
+{
+    let mut names = Vec::new(alloc);
+    let mut rest = rules;
+    'rules: while let [rule, behind @ ..] = rest {
+        add_names(alloc, &mut names, rule)?;
+        rest = behind;
+    }
+    Ok(names)
+}
