@@ -1,5 +1,5 @@
 -- What the code makes of lines is what they say.
-use Rattle.std.proofs.Common.{◌≡◌, ℕ, suc, zero, ◌+◌, ◌≤◌, ◌<◌, List, [], ◌∷◌, ◌++◌, Option, Some, None, Bool, true, false, length, refl, ap, sym, ◌∙◌, subst, arith, ◌&&◌, map}
+use Rattle.std.proofs.Common.{◌≡◌, ℕ, suc, zero, ◌+◌, ◌≤◌, ◌<◌, List, [], ◌∷◌, ◌++◌, Option, Some, None, Bool, true, false, length, refl, ap, sym, ◌∙◌, subst, arith, ◌&&◌, map, append_assoc}
 use Rattle.std.specs.Prelude.{nat_le}
 use Rattle.std.specs.List.{list_all}
 use Rattle.std.specs.Str.Parse.{digits_value, AllDigits}
@@ -9,7 +9,7 @@ use Rattle.sel_grammar.specs.declared.grammar.Rule.{Rule}
 use Rattle.sel_grammar.specs.declared.grammar.Pattern.{Pattern}
 use Rattle.sel_grammar.specs.declared.plain_text.PlainRule.{PlainRule}
 use Rattle.sel_grammar.specs.PlainText.{is_name, is_integer, is_integer_to, kid_names, is_plain_cost, is_plain_rule}
-use Rattle.sel_grammar.specs.PlainForm.{number_of, pattern_of, cost_of, rule_of}
+use Rattle.sel_grammar.specs.PlainForm.{number_of, pattern_of, cost_of, rule_of, rules_of}
 use Rattle.sel_grammar.proofs.PlainNames.{both}
 use Rattle.sel_grammar.proofs.PlainDigits.{all_digits}
 
@@ -25,3 +25,14 @@ pub rule_said : (operators nonterminals : List (List ℕ)) (line : ℕ) (rule : 
     → record { left = left; pattern = pattern; template = record { parts = parts }; cost = record { first = cost; second = 0 }; range = None; external = None; line = line; column = 1 }
     ≡ rule_of operators nonterminals line rule
 rule_said operators nonterminals line rule left pattern cost parts a b c d = rw (a, b, c, d) refl
+
+pub one_rule_more : (operators nonterminals : List (List ℕ)) (made whole : List Rule) (line : ℕ) (rest behind : List PlainRule) (rule : PlainRule) (r : Rule)
+    → made ++ rules_of operators nonterminals line rest ≡ whole → rest ≡ rule ∷ behind → r ≡ rule_of operators nonterminals line rule
+    → (made ++ r ∷ []) ++ rules_of operators nonterminals (line + 1) behind ≡ whole
+one_rule_more operators nonterminals made whole line rest behind rule r h e s =
+    append_assoc made (r ∷ []) (rules_of operators nonterminals (line + 1) behind)
+    ∙ ap (λ x. made ++ x ∷ rules_of operators nonterminals (line + 1) behind) s
+    ∙ ap (λ x. made ++ rules_of operators nonterminals line x) (sym e) ∙ h
+
+pub rest_passes : {X : Type 0} (p : X → Bool) (rest behind : List X) (x : X) → list_all p rest ≡ true → rest ≡ x ∷ behind → list_all p behind ≡ true
+rest_passes p rest behind x h e = (both (p x) (list_all p behind) (ap (list_all p) (sym e) ∙ h)).1

@@ -150,7 +150,7 @@ fn rules_of(
     let mut rules = Vec::new(alloc);
     let mut line = FIRST_RULE_LINE;
     let mut rest = text.rules.as_slice();
-    'rules: while let [rule, behind @ ..] = rest {
+    'rules: while let Some((rule, behind)) = rest.split_first() {
         rules.push(rule_of(alloc, entries, nonterminals, line, rule)?)?;
         line += 1;
         rest = behind;
