@@ -14,3 +14,4 @@ pub mod PlainDigits
 pub mod PlainSteps
 pub mod PlainNumbers
 pub mod PlainMeaning
+pub mod PlainGrammars
