@@ -15,3 +15,4 @@ pub mod PlainSteps
 pub mod PlainNumbers
 pub mod PlainMeaning
 pub mod PlainGrammars
+pub mod PlainDecided

@@ -14,9 +14,9 @@ use Rattle.sel_grammar.specs.declared.plain_text.PlainKids.TheVariants.{Absent, 
 use Rattle.sel_grammar.specs.declared.plain_text.PlainRule.{PlainRule}
 use Rattle.sel_grammar.specs.declared.plain_text.PlainText.{PlainText}
 use Rattle.sel_grammar.specs.Chains.{IsFreeStep, FreeWalk, last, step, HasNoFreeCycle}
-use Rattle.sel_grammar.specs.Limits.{IsArity, IsWithinLimits}
+use Rattle.sel_grammar.specs.Limits.{most_operators, most_nonterminals, most_rules, IsArity, IsWithinLimits}
 use Rattle.sel_grammar.specs.PlainText.{SpellsLines, kid_names}
-use Rattle.sel_grammar.specs.PlainForm.{is_among, named_by, named, with_new, nonterminals_of, first_use, IsPlain, number_of, operator_of, pattern_of, rule_of, rules_of, start_of, operator_names, grammar_of, SpellsGrammar}
+use Rattle.sel_grammar.specs.PlainForm.{is_among, has_twice, is_lawful_rule, named_by, with_new, nonterminals_of, first_use, IsPlain, number_of, operator_of, pattern_of, rule_of, rules_of, start_of, operator_names, grammar_of, SpellsGrammar}
 use Rattle.sel_grammar.specs.PlainReading.{read_lines}
 use Rattle.sel_grammar.proofs.PlainNames.{both}
 use Rattle.sel_grammar.proofs.PlainTexts.{lines_found, lines_read}
@@ -188,3 +188,16 @@ no_free_cycle bytes g s =
     subst HasNoFreeCycle (sym s.says) (HasNoFreeCycle-plain (grammar_of s.text) (λ k r m h e.
         said_by (operator_names s.text) (nonterminals_of s.text) 3 s.text.rules k r h (λ at rule g f.
             no_leaf (number_of (operator_names s.text) rule.operator) (nonterminals_of s.text) rule.kids m (ap (λ x. x.pattern) (sym f) ∙ e))))
+
+-- what the checks find
+pub checked : (bytes : List ℕ) (text : PlainText) (names : List (List ℕ)) → read_lines bytes ≡ Some text
+    → (1 ≤ length text.entries) × (1 ≤ length text.rules) × (length text.entries ≤ most_operators) × (length text.rules ≤ most_rules)
+    → (has_twice (operator_names text) ≡ false) × (list_all (is_lawful_rule text) text.rules ≡ true)
+    → names ≡ nonterminals_of text → length names ≤ most_nonterminals → IsPlain text
+checked bytes text names h few lawful e small =
+    let found = lines_found bytes text h in
+    record {
+      an_entry = few.0; a_rule = few.1; few_entries = few.2; few_rules = few.3;
+      few_nonterminals = subst (λ x. length x ≤ most_nonterminals) e small;
+      entries = found.entries; rules = found.rules; apart = lawful.0; lawful = lawful.1;
+    }

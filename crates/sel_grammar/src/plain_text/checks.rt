@@ -1,12 +1,14 @@
 //! Whether lines that were read make a text of the plain form.
 
-ghost use Rattle.std.specs.Prelude.{◌≡◌, ◌≤◌, length, map, not, option_map};
+ghost use Rattle.std.specs.Prelude.{◌≡◌, ◌≤◌, ◌↔◌, IsTrue, true, false, length, map};
 ghost use Rattle.std.specs.List.{list_all, list_any};
 ghost use Rattle.sel_grammar.specs.PlainForm as form;
+ghost use Rattle.sel_grammar.specs.Limits.{most_operators, most_rules};
 ghost use Rattle.sel_grammar.specs.PlainText.{kid_names};
 
 use super::names::{is_left, is_operator, kid_count};
 use super::{PlainEntry, PlainKids, PlainRule, PlainText};
+use crate::limits::{MOST_OPERATORS, MOST_RULES};
 
 /// Whether two entries have the same name.
 fn has_twice(entries: &[PlainEntry]) -> bool
@@ -83,4 +85,20 @@ fn are_lawful_rules(text: &PlainText) -> bool
         rest = behind;
     }
     true
+}
+
+/// Whether there are entries and rules, and not too many.
+pub fn are_few(text: &PlainText) -> bool
+    ensures { IsTrue result ↔ (1 ≤ length text.now.entries) × (1 ≤ length text.now.rules) × (length text.now.entries ≤ most_operators) × (length text.now.rules ≤ most_rules) }
+{
+    let entries = text.entries.len();
+    let rules = text.rules.len();
+    entries > 0 && rules > 0 && entries <= MOST_OPERATORS && rules <= MOST_RULES
+}
+
+/// Whether the names are used as they were declared.
+pub fn are_lawful(text: &PlainText) -> bool
+    ensures { IsTrue result ↔ (form.has_twice (form.operator_names text.now) ≡ false) × (list_all (form.is_lawful_rule text.now) text.now.rules ≡ true) }
+{
+    !has_twice(text.entries.as_slice()) && are_lawful_rules(text)
 }

@@ -157,3 +157,34 @@ fn rules_of(
     }
     Ok(rules)
 }
+
+fn start_of(nonterminals: &[Name], rules: &[PlainRule]) -> u16
+    requires { length nonterminals.now ≤ most_nonterminals }
+    ensures { result ≡ form.start_of nonterminals.now rules.now }
+{
+    match rules.split_first() {
+        None => 0,
+        Some((rule, _)) => name_number(nonterminals, rule.left.as_slice()) as u16,
+    }
+}
+
+/// The grammar that the lines say.
+pub fn grammar_of(
+    alloc: Global,
+    text: &PlainText,
+    nonterminals: Vec<Name>,
+) -> Result<Grammar, NoMemory>
+    requires plain { form.IsPlain text.now }
+    requires named { nonterminals.items ≡ form.nonterminals_of text.now }
+    ensures { IfOk result (λ grammar. grammar ≡ form.grammar_of text.now) }
+{
+    let start = start_of(nonterminals.as_slice(), text.rules.as_slice());
+    let operators = operators_of(alloc, text)?;
+    let rules = rules_of(alloc, text, nonterminals.as_slice())?;
+    Ok(Grammar {
+        start,
+        operators: List::from_vec(operators),
+        nonterminals: List::from_vec(nonterminals),
+        rules: List::from_vec(rules),
+    })
+}
