@@ -6,7 +6,6 @@ pub mod Ranks
 pub mod Examples
 pub mod One
 pub mod Kids
-pub mod PlainExamples
 pub mod PlainNames
 pub mod PlainLines
 pub mod PlainTexts
@@ -16,3 +15,4 @@ pub mod PlainNumbers
 pub mod PlainMeaning
 pub mod PlainGrammars
 pub mod PlainDecided
+pub mod PlainExamples

@@ -1,5 +1,5 @@
--- A worked text of the plain form, and what it says; a text of it with one line changed spells nothing (see the tests).
-use Rattle.std.proofs.Common.{◌≡◌, ℕ, List, [], ◌∷◌, ◌++◌, refl, Some, None, inl, inr, arith}
+-- A worked text of the plain form and what it says, and a text that spells nothing.
+use Rattle.std.proofs.Common.{◌≡◌, ℕ, List, [], ◌∷◌, ◌++◌, refl, Some, None, inl, inr, arith, true, false}
 use Rattle.std.specs.Prelude.{codes}
 use Rattle.sel_grammar.specs.declared.grammar.Grammar.{Grammar}
 use Rattle.sel_grammar.specs.declared.grammar.Rule.{Rule}
@@ -12,6 +12,8 @@ use Rattle.sel_grammar.specs.declared.plain_text.PlainRule.{PlainRule}
 use Rattle.sel_grammar.specs.declared.plain_text.PlainText.{PlainText}
 use Rattle.sel_grammar.specs.PlainText.{SpellsLines, line_end}
 use Rattle.sel_grammar.specs.PlainForm.{SpellsGrammar, IsPlain, grammar_of}
+use Rattle.sel_grammar.specs.PlainReading.{read_lines, read_entries, read_rules}
+use Rattle.sel_grammar.proofs.PlainGrammars.{no_grammar}
 
 abbrev line : List ℕ → List ℕ
 line bytes = bytes ++ line_end
@@ -53,3 +55,33 @@ is_plain = record {
 
 pub spells : SpellsGrammar bytes grammar
 spells = record { text = text; spelled = inr refl; plain = is_plain; says = refl }
+
+-- the same with the first rule a chain rule
+abbrev chained : List ℕ
+chained = line (codes "%term X=1 U=2 P=3") ++ line (codes "%%") ++ line (codes "s: a \"\" 1") ++ line (codes "s: P(a,b) \"\" 1")
+    ++ line (codes "a: X \"\" 2") ++ line (codes "b: X \"\" 1") ++ line (codes "a: U(b) \"\" 0")
+
+abbrev chained_text : PlainText
+chained_text = record {
+  entries = text.entries;
+  rules = record { left = codes "s"; operator = codes "a"; kids = Absent; cost = Some (codes "1") }
+      ∷ record { left = codes "s"; operator = codes "P"; kids = Two (codes "a") (codes "b"); cost = Some (codes "1") }
+      ∷ record { left = codes "a"; operator = codes "X"; kids = Absent; cost = Some (codes "2") }
+      ∷ record { left = codes "b"; operator = codes "X"; kids = Absent; cost = Some (codes "1") }
+      ∷ record { left = codes "a"; operator = codes "U"; kids = One (codes "b"); cost = Some (codes "0") } ∷ [];
+}
+
+chained_read : read_lines chained ≡ Some chained_text
+unfolding read_lines read_entries read_rules
+chained_read = refl
+
+pub chained_spells_nothing : (g : Grammar) → SpellsGrammar chained g → ⊥
+chained_spells_nothing = no_grammar chained chained_text chained_read unlawful
+  where
+    unlawful : IsPlain chained_text → ⊥
+    unlawful p = let h : false ≡ true = p.lawful in cc
+
+-- a blank behind `%%` makes the bytes no lines
+pub blank_not_read : read_lines (line (codes "%term X=1") ++ codes "%% ") ≡ None
+unfolding read_lines read_entries read_rules
+blank_not_read = refl

@@ -11,3 +11,6 @@ pub use grammar::{Attribute, Grammar, Operator, Part, Pattern, Rule, RuleCost, T
 pub use plain_text::{Digits, PlainEntry, PlainKids, PlainRule, PlainText, read_grammar};
 pub use refusal::{GrammarFault, GrammarRefusal};
 pub use sel_base::{Pair, Range};
+
+#[cfg(test)]
+mod tests;
