@@ -115,6 +115,7 @@ fn another_text_is_refused_at_its_first_byte(rt: HostRuntime) -> Result<(), Fail
         "%term X=1\n%%\na: X \"\" 1x\n",
     ];
     for text in texts {
+        assert!(rt; text.len() < 100);
         assert_eq!(rt; read_grammar(alloc, text.as_bytes()).err(), Some(UNBUILT_TEXT), "of {text}");
     }
     Ok(())
@@ -150,6 +151,7 @@ fn a_text_is_refused_past_the_limits(rt: HostRuntime) -> Result<(), Fail> {
     ];
     for (operators, last, rules, want) in cases {
         let text = sized(alloc, operators, last, rules)?;
+        assert!(rt; text.len() < 100_000);
         let got = read_grammar(alloc, text.as_bytes()).err();
         assert_eq!(rt; got, want, "with {operators}, {last}, {rules}");
     }
