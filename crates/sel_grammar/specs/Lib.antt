@@ -8,3 +8,6 @@ pub mod Chains
 pub mod Laws
 pub mod Expansions
 pub mod Limits
+pub mod PlainText
+pub mod PlainForm
+pub mod PlainReading

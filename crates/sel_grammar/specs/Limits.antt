@@ -17,6 +17,10 @@ most_rules = 1023
 abbrev pub greatest_cost : ℕ
 greatest_cost = 65535
 
+-- the greatest number that `%term` gives an operator
+abbrev pub greatest_external : ℕ
+greatest_external = 4294967295
+
 -- the text has no form that this version reads
 abbrev pub unbuilt : ℕ
 unbuilt = 15

@@ -1,3 +1,6 @@
+ghost use Rattle.std.specs.Prelude.{◌≡◌};
+ghost use Rattle.sel_grammar.specs.declared.refusal.GrammarRefusal.TheVariants as GrammarRefusal;
+
 use sel_base::NoMemory;
 
 /// The first fault of a grammar's text: its kind (`limits` has their names), and its line and column,
@@ -17,6 +20,8 @@ pub enum GrammarRefusal {
 }
 
 impl From<NoMemory> for GrammarRefusal {
+    ghost from_gives = { λ _ e. e ≡ GrammarRefusal.NoMemory };
+
     fn from(_: NoMemory) -> GrammarRefusal {
         GrammarRefusal::NoMemory
     }
