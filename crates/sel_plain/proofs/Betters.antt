@@ -17,7 +17,7 @@ use Rattle.sel_plain.specs.Offers.{offered, offered_at, offered_by}
 use Rattle.sel_plain.proofs.Patterns.{operator_kind}
 use Rattle.sel_forest.proofs.Matching.{some_same}
 use Rattle.sel_plain.proofs.Entries.{same_or_other, entry_at-get_or, entry_at-set_same, entry_at-set_other}
-use Rattle.sel_plain.specs.Bettering.{IsNoLater, offer_entry, IsBettered, Keeps, distance, total_distance, counts_to, count_to, IsBacked, AllBacked, OperatorOffers}
+use Rattle.sel_plain.specs.Bettering.{IsNoLater, KeepsOut, offer_entry, IsBettered, Keeps, distance, total_distance, counts_to, count_to, IsBacked, AllBacked, OperatorOffers}
 use Rattle.sel_plain.proofs.CostBoundLaws.{IsIn64, IsIn64-capped, cost_place_below, cost_place_less, IsUpTo-wider, IsUpTo-same, IsUpTo-sum, capped_exact, NoDearer-trans, NoDearer-behind, cheaper_no_dearer}
 use Rattle.sel_plain.proofs.Counts.{counted, uncounted, count_to_le, count_to_more, counts_sooner}
 
@@ -52,7 +52,7 @@ pub total_distance-bettered : (rule : Rule) (r : ℕ) (offer : Option Cost) (old
 total_distance-bettered rule r offer old new b h few =
     let f = offer_entry rule r b.kids in
     let here = entry_at-get_or old rule.left h in
-    let near : distance (Some f) < distance (get_or old rule.left None) = nearer (get_or old rule.left None) f (IsIn64-capped (price rule) b.kids) few (λ e q. b.later e (here ∙ q)) in
+    let near : distance (Some f) < distance (get_or old rule.left None) = nearer (get_or old rule.left None) f (IsIn64-capped (price rule) b.kids) few (λ e q k. b.later (subst (λ o. KeepsOut o f) (sym (here ∙ q)) k)) in
     let s = sum_by-set distance old rule.left (Some f) None h in
     rw (b.set) (less _ _ _ _ near s)
   where
@@ -87,7 +87,7 @@ module _ (rule : Rule) (r : ℕ) (offer : Option Cost) (old new : Row) (inside :
   new_other n h = ap (λ x. entry_at x n) b.set ∙ entry_at-set_other old rule.left n (Some (offer_entry rule r b.kids)) h
 
   sooner : (e : Entry) → entry_at old rule.left ≡ Some e → IsNoLater (offer_entry rule r b.kids) e
-  sooner e h = go (later_than e (offer_entry rule r b.kids) (b.later e h))
+  sooner e h = go (later_than e (offer_entry rule r b.kids) (λ k. b.later (subst (λ o. KeepsOut o (offer_entry rule r b.kids)) (sym h) k)))
     where
       go : IsCheaper (offer_entry rule r b.kids).cost e.cost ⊎ (((offer_entry rule r b.kids).cost ≡ e.cost) × ((offer_entry rule r b.kids).rule < e.rule)) → IsNoLater (offer_entry rule r b.kids) e
       go (inl l) = inl l

@@ -192,7 +192,7 @@ module _ (g : Grammar) (nodes : List Node) (rows : List Row) (i : ℕ) (t : Plai
           pick (inr l) = inr (l.0, let x = l.1 in omega arith)
 
       go : (o : Option Entry) → entry_at row rule.left ≡ o → Withstands o (Some k) rule (j + 1) → (e : Entry) × (entry_at row rule.left ≡ Some e) × NoLater e.cost e.rule (price rule ⊕ k) (suc j)
-      go None q s = absurd s
+      go None q s = absurd s.0
       go (Some e) q s = (e, q, later e s.1 (kids_small rule k h) s.0)
 
   offer_of : (rule : Rule) (c : Cost) → Offer g t told_row rule c → offered rule nodes rows row i ≡ Some c

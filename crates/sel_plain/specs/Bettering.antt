@@ -23,19 +23,23 @@ IsNoLater a b = IsCheaper a.cost b.cost ⊎ ((a.cost ≡ b.cost) × (a.rule ≤ 
 abbrev pub offer_entry : Rule → ℕ → Cost → Entry
 offer_entry rule r c = record { cost = capped_sum (price rule) c; rule = r }
 
--- an entry withstands what a rule offers: it is no later
-abbrev pub Withstands : Option Entry → Option Cost → Rule → ℕ → Type 0
-Withstands o None rule r = Unit {0}
-Withstands None (Some c) rule r = ⊥
-Withstands (Some e) (Some c) rule r = IsNoLater e (offer_entry rule r c) × IsUpTo greatest_cost (price rule)
+-- what a place has is no later than an entry
+abbrev pub KeepsOut : Option Entry → Entry → Type 0
+KeepsOut None f = ⊥
+KeepsOut (Some e) f = IsNoLater e f
 
--- the row takes what the rule offers, since no entry withstood it
+-- a place withstands what a rule offers: there is no offer, or the place keeps it out
+abbrev pub Withstands : Option Entry → Option Cost → Rule → ℕ → Type 0
+Withstands place None rule r = Unit {0}
+Withstands place (Some c) rule r = KeepsOut place (offer_entry rule r c) × IsUpTo greatest_cost (price rule)
+
+-- the row takes what the rule offers, since its place doesn't keep it out
 pub record IsBettered (rule : Rule) (r : ℕ) (offer : Option Cost) (old new : Row) : Type 0 where
   pub kids : Cost
   pub cheap : IsUpTo greatest_cost (price rule)
   pub offered : offer ≡ Some kids
   pub set : new ≡ slice_set old rule.left (Some (offer_entry rule r kids))
-  pub later : (e : Entry) → entry_at old rule.left ≡ Some e → IsNoLater e (offer_entry rule r kids) → ⊥
+  pub later : KeepsOut (entry_at old rule.left) (offer_entry rule r kids) → ⊥
 
 -- the offers of all rules of a kind are withstood
 abbrev pub KindWithstood : RuleKind → Grammar → List Node → List Row → Row → ℕ → Type 0
