@@ -1,4 +1,5 @@
-ghost use Rattle.std.specs.Prelude.{◌≡◌, ◌<◌, ◌^◌, ℕ, length, true, false};
+ghost use Rattle.std.specs.Prelude.{◌≡◌, ◌<◌, ◌+◌, ℕ, length, true, false};
+ghost use Rattle.sel_forest.specs.Limits.{most_nodes};
 ghost use Rattle.sel_grammar.specs.PlainTrees.{PlainTree};
 ghost use Rattle.sel_grammar.specs.Chains.{HasNoFreeCycle};
 ghost use Rattle.sel_grammar.specs.Limits.{IsWithinLimits};
@@ -122,7 +123,7 @@ pub fn close_row(
 )
     requires limits { IsWithinLimits grammar.now }
     requires free { HasNoFreeCycle grammar.now }
-    requires sizes { SizesBelow nodes.now (2 ^ 32) }
+    requires sizes { SizesBelow nodes.now (most_nodes + 1) }
     requires lower { AreBestRows grammar.now nodes.now table.now.rows at }
     requires long { length row.old ≡ length grammar.now.nonterminals }
     ensures { (t : PlainTree) → IsRootAt nodes.now at t → IsBestRow grammar.now t row.new }
