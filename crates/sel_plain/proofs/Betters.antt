@@ -6,18 +6,18 @@ use Rattle.sel_grammar.specs.declared.grammar.Grammar.{Grammar}
 use Rattle.sel_grammar.specs.declared.grammar.Rule.{Rule}
 use Rattle.sel_grammar.specs.declared.grammar.Pattern.{Pattern, Leaf, Nullary, Unary', Binary', end_of-Pattern, more_of-Pattern}
 use Rattle.sel_grammar.specs.Costs.{Cost, ◌⊕◌, IsCheaper, price}
-use Rattle.sel_grammar.specs.Limits.{greatest_cost}
+use Rattle.sel_grammar.specs.Limits.{greatest_cost, most_nonterminals}
 use Rattle.sel_grammar.specs.Fits.{rule_at, in_range}
 use Rattle.sel_grammar.proofs.CostLaws.{cheaper_or_not, cheaper_same, same_cheaper, cheaper_trans, paid_more}
 use Rattle.sel_forest.specs.declared.forest.Node.{Node}
 use Rattle.sel_plain.specs.declared.entry.Entry.{Entry}
-use Rattle.sel_plain.specs.CostBounds.{IsUpTo, IsNoDearer, cost_place}
+use Rattle.sel_plain.specs.CostBounds.{IsUpTo, IsNoDearer, cost_place, per_tree}
 use Rattle.sel_plain.specs.Rows.{Row, entry_at, cost_of}
 use Rattle.sel_plain.specs.Offers.{offered, offered_at, offered_by}
 use Rattle.sel_plain.proofs.Patterns.{operator_kind}
 use Rattle.sel_forest.proofs.Matching.{some_same}
 use Rattle.sel_plain.proofs.Entries.{same_or_other, entry_at-get_or, entry_at-set_same, entry_at-set_other}
-use Rattle.sel_plain.specs.Bettering.{IsNoLater, offer_entry, IsBettered, Keeps, distance, total_distance, counts_to, count_to, IsBacked, AllBacked, OperatorOffers}
+use Rattle.sel_plain.specs.Bettering.{IsNoLater, KeepsOut, offer_entry, IsBettered, Keeps, distance, total_distance, counts_to, count_to, IsBacked, AllBacked, OperatorOffers}
 use Rattle.sel_plain.proofs.CostBoundLaws.{IsIn64, IsIn64-capped, cost_place_below, cost_place_less, IsUpTo-wider, IsUpTo-same, IsUpTo-sum, capped_exact, NoDearer-trans, NoDearer-behind, cheaper_no_dearer}
 use Rattle.sel_plain.proofs.Counts.{counted, uncounted, count_to_le, count_to_more, counts_sooner}
 
@@ -52,7 +52,7 @@ pub total_distance-bettered : (rule : Rule) (r : ℕ) (offer : Option Cost) (old
 total_distance-bettered rule r offer old new b h few =
     let f = offer_entry rule r b.kids in
     let here = entry_at-get_or old rule.left h in
-    let near : distance (Some f) < distance (get_or old rule.left None) = nearer (get_or old rule.left None) f (IsIn64-capped (price rule) b.kids) few (λ e q. b.later e (here ∙ q)) in
+    let near : distance (Some f) < distance (get_or old rule.left None) = nearer (get_or old rule.left None) f (IsIn64-capped (price rule) b.kids) few (λ e q k. b.later (subst (λ o. KeepsOut o f) (sym (here ∙ q)) k)) in
     let s = sum_by-set distance old rule.left (Some f) None h in
     rw (b.set) (less _ _ _ _ near s)
   where
@@ -87,7 +87,7 @@ module _ (rule : Rule) (r : ℕ) (offer : Option Cost) (old new : Row) (inside :
   new_other n h = ap (λ x. entry_at x n) b.set ∙ entry_at-set_other old rule.left n (Some (offer_entry rule r b.kids)) h
 
   sooner : (e : Entry) → entry_at old rule.left ≡ Some e → IsNoLater (offer_entry rule r b.kids) e
-  sooner e h = go (later_than e (offer_entry rule r b.kids) (b.later e h))
+  sooner e h = go (later_than e (offer_entry rule r b.kids) (λ k. b.later (subst (λ o. KeepsOut o (offer_entry rule r b.kids)) (sym h) k)))
     where
       go : IsCheaper (offer_entry rule r b.kids).cost e.cost ⊎ (((offer_entry rule r b.kids).cost ≡ e.cost) × ((offer_entry rule r b.kids).rule < e.rule)) → IsNoLater (offer_entry rule r b.kids) e
       go (inl l) = inl l
@@ -149,7 +149,7 @@ offered-keeps rule nodes rows old new i k keeps h = go (offer_is nodes rows old 
     go (inr (p, w)) = (k, w new, inl refl)
 
 module _ (g : Grammar) (rule : Rule) (r : ℕ) (nodes : List Node) (rows : List Row) (old new : Row) (i base : ℕ)
-    (at : rule_at g r ≡ Some rule) (inside : rule.left < length old) (short : length old ≤ 2 ^ 16) (low : base < 2 ^ 60)
+    (at : rule_at g r ≡ Some rule) (inside : rule.left < length old) (short : length old ≤ most_nonterminals) (low : base ≤ per_tree)
     (ops : OperatorOffers g nodes rows i base) (backed : AllBacked g nodes rows old i base) (b : IsBettered rule r (offered rule nodes rows old i) old new) where
   abbrev f : Entry
   f = offer_entry rule r b.kids
@@ -198,28 +198,28 @@ module _ (g : Grammar) (rule : Rule) (r : ℕ) (nodes : List Node) (rows : List 
       go None h q s m one = omega arith
       go (Some e) h q s m one = let x = uncounted b.kids e (cheaper_no_dearer b.kids f.cost e.cost l (no_dearer_of f e (sooner rule r _ old new inside b e h))) in omega arith
 
-  kids_small : IsUpTo (base + 65536 * count_to b.kids old) b.kids
+  kids_small : IsUpTo (base + greatest_cost * count_to b.kids old) b.kids
   kids_small = go (offer_is nodes rows old i b.kids rule b.offered)
     where
-      go : OfferIs rule nodes rows old i b.kids → IsUpTo (base + 65536 * count_to b.kids old) b.kids
-      go (inl (m, e, p, w, is, x)) = subst (λ c. IsUpTo (base + 65536 * count_to c old) c) (sym is) (backed m e w).small
+      go : OfferIs rule nodes rows old i b.kids → IsUpTo (base + greatest_cost * count_to b.kids old) b.kids
+      go (inl (m, e, p, w, is, x)) = subst (λ c. IsUpTo (base + greatest_cost * count_to c old) c) (sym is) (backed m e w).small
       go (inr (p, w)) = IsUpTo-wider base _ b.kids (omega arith) (ops rule old b.kids (operator_kind rule.pattern p) (w old))
 
   exact : f.cost ≡ price rule ⊕ b.kids
-  exact = let l = count_to_le b.kids old in capped_exact greatest_cost (base + 65536 * count_to b.kids old) (price rule) b.kids b.cheap kids_small (omega arith)
+  exact = let l = count_to_le b.kids old in capped_exact greatest_cost (base + greatest_cost * count_to b.kids old) (price rule) b.kids b.cheap kids_small (omega arith)
 
-  small_new : IsUpTo (base + 65536 * count_to f.cost new) f.cost
+  small_new : IsUpTo (base + greatest_cost * count_to f.cost new) f.cost
   small_new = go (paid_more rule.cost b.kids)
     where
-      go : (b.kids ≡ price rule ⊕ b.kids) ⊎ IsCheaper b.kids (price rule ⊕ b.kids) → IsUpTo (base + 65536 * count_to f.cost new) f.cost
+      go : (b.kids ≡ price rule ⊕ b.kids) ⊎ IsCheaper b.kids (price rule ⊕ b.kids) → IsUpTo (base + greatest_cost * count_to f.cost new) f.cost
       go (inl q) =
           let same : b.kids ≡ f.cost = q ∙ sym exact in
           let more = count_still f.cost in
-          IsUpTo-wider (base + 65536 * count_to f.cost old) _ f.cost (omega arith) (subst (λ c. IsUpTo (base + 65536 * count_to c old) c) same kids_small)
+          IsUpTo-wider (base + greatest_cost * count_to f.cost old) _ f.cost (omega arith) (subst (λ c. IsUpTo (base + greatest_cost * count_to c old) c) same kids_small)
       go (inr l) =
           let more = count_dearer (cheaper_same b.kids _ f.cost l (sym exact)) in
           IsUpTo-same _ (price rule ⊕ b.kids) f.cost (sym exact)
-          (IsUpTo-wider (greatest_cost + (base + 65536 * count_to b.kids old)) _ (price rule ⊕ b.kids) (omega arith) (IsUpTo-sum _ _ (price rule) b.kids b.cheap kids_small))
+          (IsUpTo-wider (greatest_cost + (base + greatest_cost * count_to b.kids old)) _ (price rule ⊕ b.kids) (omega arith) (IsUpTo-sum _ _ (price rule) b.kids b.cheap kids_small))
 
   backed_new : IsBacked g nodes rows new i base rule.left f
   backed_new =
@@ -246,7 +246,7 @@ module _ (g : Grammar) (rule : Rule) (r : ℕ) (nodes : List Node) (rows : List 
         kids = o.0;
         offered = o.1;
         no_more = NoDearer-trans (price k.rule ⊕ o.0) (price k.rule ⊕ k.kids) e.cost (NoDearer-behind (price k.rule) o.0 k.kids o.2) k.no_more;
-        small = IsUpTo-wider (base + 65536 * count_to e.cost old) _ e.cost (omega arith) k.small;
+        small = IsUpTo-wider (base + greatest_cost * count_to e.cost old) _ e.cost (omega arith) k.small;
       }
 
   pub AllBacked-bettered : AllBacked g nodes rows new i base

@@ -1,12 +1,13 @@
 -- A row that no rule betters, and whose entries are backed, is the best.
-use Rattle.std.proofs.Common.{◌≡◌, ℕ, zero, suc, ◌+◌, ◌-◌, ◌*◌, ◌<◌, ◌≤◌, ◌^◌, ◌⊎◌, inl, inr, Bool, true, false, if◌then◌else◌, List, [], ◌∷◌, length, refl, ap, sym, ◌∙◌, subst, arith, Option, Some, None}
+use Rattle.std.proofs.Common.{◌≡◌, ℕ, zero, suc, ◌+◌, ◌-◌, ◌*◌, ◌<◌, ◌≤◌, ◌⊎◌, inl, inr, Bool, true, false, if◌then◌else◌, List, [], ◌∷◌, length, refl, ap, sym, ◌∙◌, subst, arith, Option, Some, None}
+use Rattle.sel_forest.specs.Limits.{most_nodes}
 use Rattle.sel_grammar.specs.declared.grammar.Grammar.{Grammar}
 use Rattle.sel_grammar.specs.declared.grammar.Rule.{Rule}
 use Rattle.sel_grammar.specs.declared.grammar.Pattern.{Pattern, Leaf, Nullary, Unary', Binary', end_of-Pattern, more_of-Pattern}
 use Rattle.sel_grammar.specs.Costs.{Cost, ◌⊕◌, no_cost, IsCheaper, price}
-use Rattle.sel_grammar.specs.Limits.{greatest_cost}
+use Rattle.sel_grammar.specs.Limits.{greatest_cost, most_nonterminals}
 use Rattle.sel_grammar.proofs.CostLaws.{weight, weight-paid, free_or_not, cheaper_not_both}
-use Rattle.sel_plain.specs.CostBounds.{IsUpTo, IsNoDearer}
+use Rattle.sel_plain.specs.CostBounds.{IsUpTo, IsNoDearer, per_tree, per_node}
 use Rattle.sel_plain.proofs.CostBoundLaws.{IsUpTo-wider, IsUpTo-same, capped_exact, Nat-up_to, NoDearer-not}
 use Rattle.sel_plain.proofs.Counts.{count_to_le}
 use Rattle.sel_grammar.specs.PlainTrees.{PlainTree, size, attribute_of}
@@ -21,7 +22,7 @@ use Rattle.sel_forest.specs.declared.forest.Node.{Node}
 use Rattle.sel_plain.specs.declared.entry.Entry.{Entry}
 use Rattle.sel_plain.specs.Rows.{Row, entry_at, cost_of}
 use Rattle.sel_plain.specs.Offers.{offered, offered_at, offered_by, kids_cost}
-use Rattle.sel_plain.specs.BestRows.{IsBestEntry, IsBestRow, AreBestRows, per_node}
+use Rattle.sel_plain.specs.BestRows.{IsBestEntry, IsBestRow, AreBestRows}
 use Rattle.sel_forest.specs.Places.{IsRootAt}
 use Rattle.sel_plain.specs.Bettering.{IsNoLater, offer_entry, Withstands, KindWithstood, count_to, IsBacked, AllBacked, OperatorOffers}
 use Rattle.sel_plain.specs.declared.kind.RuleKind.{RuleKind}
@@ -64,7 +65,7 @@ same_costs g ds es ns ts f h =
     go (inr q) (inl k) = sym k
     go (inr q) (inr k) = absurd (cheaper_not_both (costs g ds) (costs g es) q k)
 
-module _ (g : Grammar) (nodes : List Node) (rows : List Row) (i : ℕ) (t : PlainTree) (low : AreBestRows g nodes rows i) (root : IsRootAt nodes i t) (small : size t < 2 ^ 32) where
+module _ (g : Grammar) (nodes : List Node) (rows : List Row) (i : ℕ) (t : PlainTree) (low : AreBestRows g nodes rows i) (root : IsRootAt nodes i t) (small : size t < most_nodes + 1) where
   at_root : (p : Pattern) → ((m : ℕ) → p ≡ Leaf m → ⊥) → IsKidsCost g p t (size t - 1) (kids_cost p nodes rows i)
   at_root p op = subst (λ x. IsKidsCost g p t x (kids_cost p nodes rows i)) (room_operator p t op) (kids_cost_means g nodes rows i low p i t (omega arith) small root (λ n e. absurd (op n e)))
 
@@ -141,12 +142,12 @@ lower : (top a b c z w : ℕ) → z ≤ top → b ≡ c + a → (z < w) ⊎ (1 �
 lower top a b c z w h e (inl l) = let m = mul_le a b (top + 1) (omega arith) in omega arith
 lower top a b c z w h e (inr l) = let m = mul_le (a + 1) b (top + 1) (omega arith) in omega arith
 
-module _ (g : Grammar) (nodes : List Node) (rows : List Row) (i : ℕ) (t : PlainTree) (row : Row) (low : AreBestRows g nodes rows i) (root : IsRootAt nodes i t) (small : size t < 2 ^ 32)
-    (ranks : FreeRanks g) (still : (kind : RuleKind) → KindWithstood kind g nodes rows row i) (backed : AllBacked g nodes rows row i (per_node * (size t - 1))) (short : length row ≤ 64) where
+module _ (g : Grammar) (nodes : List Node) (rows : List Row) (i : ℕ) (t : PlainTree) (row : Row) (low : AreBestRows g nodes rows i) (root : IsRootAt nodes i t) (small : size t < most_nodes + 1)
+    (ranks : FreeRanks g) (still : (kind : RuleKind) → KindWithstood kind g nodes rows row i) (backed : AllBacked g nodes rows row i (per_node * (size t - 1))) (short : length row ≤ most_nonterminals) where
   abbrev told_row : ℕ → Option (Cost × ℕ)
   told_row n = told_by (entry_at row n)
 
-  few : (c : Cost) → count_to c row ≤ 64
+  few : (c : Cost) → count_to c row ≤ most_nonterminals
   few c = let h = count_to_le c row in omega arith
 
   -- an entry by what the row tells
@@ -165,7 +166,7 @@ module _ (g : Grammar) (nodes : List Node) (rows : List Row) (i : ℕ) (t : Plai
       held m (Some e) at q =
           let f = few e.cost in
           let z = size_some t in
-          IsUpTo-same _ e.cost k (some_same q) (IsUpTo-wider (per_node * (size t - 1) + 65536 * count_to e.cost row) _ e.cost (omega arith) (backed m e at).small)
+          IsUpTo-same _ e.cost k (some_same q) (IsUpTo-wider (per_node * (size t - 1) + greatest_cost * count_to e.cost row) _ e.cost (omega arith) (backed m e at).small)
 
       go : ((m : ℕ) × (rule.pattern ≡ Leaf m)) ⊎ ((m : ℕ) → rule.pattern ≡ Leaf m → ⊥) → IsUpTo (per_node * size t) k
       go (inl (m, p)) = held m (entry_at row m) refl (chain_cost m p)
@@ -192,7 +193,7 @@ module _ (g : Grammar) (nodes : List Node) (rows : List Row) (i : ℕ) (t : Plai
           pick (inr l) = inr (l.0, let x = l.1 in omega arith)
 
       go : (o : Option Entry) → entry_at row rule.left ≡ o → Withstands o (Some k) rule (j + 1) → (e : Entry) × (entry_at row rule.left ≡ Some e) × NoLater e.cost e.rule (price rule ⊕ k) (suc j)
-      go None q s = absurd s
+      go None q s = absurd s.0
       go (Some e) q s = (e, q, later e s.1 (kids_small rule k h) s.0)
 
   offer_of : (rule : Rule) (c : Cost) → Offer g t told_row rule c → offered rule nodes rows row i ≡ Some c
@@ -278,11 +279,11 @@ module _ (g : Grammar) (nodes : List Node) (rows : List Row) (i : ℕ) (t : Plai
           let k = kept g t told_row rank closed n e.cost e.rule (ap told_by h) in
           let f = few e.cost in
           let z = size_some t in
-          (k, IsUpTo-wider (per_node * (size t - 1) + 65536 * count_to e.cost row) _ e.cost (omega arith) (backed n e h).small)
+          (k, IsUpTo-wider (per_node * (size t - 1) + greatest_cost * count_to e.cost row) _ e.cost (omega arith) (backed n e h).small)
 
-pub IsBestRow-settled : (g : Grammar) (nodes : List Node) (rows : List Row) (row : Row) (i : ℕ) (t : PlainTree) → HasNoFreeCycle g → length g.nonterminals ≤ 64
-    → AreBestRows g nodes rows i → IsRootAt nodes i t → size t < 2 ^ 32 → length row ≡ length g.nonterminals → ((kind : RuleKind) → KindWithstood kind g nodes rows row i)
-    → ((base : ℕ) → base < 2 ^ 60 → OperatorOffers g nodes rows i base → AllBacked g nodes rows row i base) → IsBestRow g t row
+pub IsBestRow-settled : (g : Grammar) (nodes : List Node) (rows : List Row) (row : Row) (i : ℕ) (t : PlainTree) → HasNoFreeCycle g → length g.nonterminals ≤ most_nonterminals
+    → AreBestRows g nodes rows i → IsRootAt nodes i t → size t < most_nodes + 1 → length row ≡ length g.nonterminals → ((kind : RuleKind) → KindWithstood kind g nodes rows row i)
+    → ((base : ℕ) → base ≤ per_tree → OperatorOffers g nodes rows i base → AllBacked g nodes rows row i base) → IsBestRow g t row
 IsBestRow-settled g nodes rows row i t free names lower root small long still backed =
     let ops = operator_offers g nodes rows i t lower root small in
     IsBestRow-closed g nodes rows i t row lower root small (free_ranks g free) still (backed (per_node * (size t - 1)) (omega arith) ops) (omega arith)

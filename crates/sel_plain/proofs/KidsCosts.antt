@@ -1,7 +1,8 @@
 -- A price root for the best kids.
-use Rattle.std.proofs.Common.{◌≡◌, ℕ, ◌+◌, ◌-◌, ◌*◌, ◌<◌, ◌≤◌, ◌⊎◌, inl, inr, Bool, true, false, ◌==◌, if◌then◌else◌, List, [], ◌∷◌, ◌++◌, length, refl, ap, sym, ◌∙◌, subst, arith, Option, Some, None, slice_get, length-append, ◌^◌}
+use Rattle.std.proofs.Common.{◌≡◌, ℕ, ◌+◌, ◌-◌, ◌*◌, ◌<◌, ◌≤◌, ◌⊎◌, inl, inr, Bool, true, false, ◌==◌, if◌then◌else◌, List, [], ◌∷◌, ◌++◌, length, refl, ap, sym, ◌∙◌, subst, arith, Option, Some, None, slice_get, length-append}
 use Rattle.std.specs.Option.{option_and_then}
 use Rattle.std.proofs.lemmas.Bool.Decides.{nat_tests}
+use Rattle.sel_forest.specs.Limits.{most_nodes}
 use Rattle.sel_grammar.specs.declared.grammar.Grammar.{Grammar}
 use Rattle.sel_grammar.specs.declared.grammar.Pattern.{Pattern, Leaf, Nullary, Unary', Binary', end_of-Pattern, more_of-Pattern}
 use Rattle.sel_grammar.specs.declared.grammar.Attribute.{Attribute}
@@ -12,7 +13,7 @@ use Rattle.sel_grammar.specs.Fits.{leaves, subtrees, joined}
 use Rattle.sel_grammar.specs.Costs.{Cost, no_cost, ◌⊕◌}
 use Rattle.sel_grammar.specs.Derivations.{Derivation, Deriv, Derivations, no_more, more, Derives, DeriveAll, cost, costs}
 use Rattle.sel_grammar.proofs.CostLaws.{same_sums, sum_none}
-use Rattle.sel_plain.specs.CostBounds.{capped_sum, IsUpTo}
+use Rattle.sel_plain.specs.CostBounds.{capped_sum, IsUpTo, per_node}
 use Rattle.sel_plain.proofs.CostBoundLaws.{capped_exact, IsUpTo-wider, IsUpTo-same, IsUpTo-sum, IsUpTo-none}
 use Rattle.sel_grammar.specs.Firsts.{AllFirst}
 use Rattle.sel_forest.specs.declared.forest.Node.{Node}
@@ -21,7 +22,7 @@ use Rattle.sel_plain.specs.Rows.{Row, entry_at, row_at, cost_of}
 use Rattle.sel_plain.specs.Offers.{both_costs, kids_cost}
 use Rattle.sel_forest.proofs.Matching.{some_same, some_none}
 use Rattle.sel_plain.proofs.Entries.{same_or_other}
-use Rattle.sel_plain.specs.BestRows.{IsBestEntry, IsBestRow, AreBestRows, per_node}
+use Rattle.sel_plain.specs.BestRows.{IsBestEntry, IsBestRow, AreBestRows}
 use Rattle.sel_forest.specs.Places.{IsRootAt, met}
 use Rattle.sel_grammar.proofs.Kids.{both_kids, costs-both, AllFirst-both, DeriveAll-split}
 
@@ -132,7 +133,7 @@ lift_unary g whole p op a u (Some c) lies same h = record {
   small = IsUpTo-wider (per_node * room p u) _ c (let r = room_le p u in omega arith) h.small;
 }
 
-lift_binary : (g : Grammar) (whole p q : Pattern) (op : ℕ) (a : Attribute) (u v : PlainTree) (x y : Option Cost) → size (Node2 op a u v) < 2 ^ 32
+lift_binary : (g : Grammar) (whole p q : Pattern) (op : ℕ) (a : Attribute) (u v : PlainTree) (x y : Option Cost) → size (Node2 op a u v) < most_nodes + 1
     → subtrees whole (Node2 op a u v) ≡ joined (subtrees p u) (subtrees q v) → leaves whole ≡ leaves p ++ leaves q
     → IsKidsCost g p u (room p u) x → IsKidsCost g q v (room q v) y → IsKidsCost g whole (Node2 op a u v) (size (Node2 op a u v) - 1) (both_costs x y)
 lift_binary g whole p q op a u v (Some b) (Some c) few lies same h k = record {
@@ -195,10 +196,10 @@ module _ (g : Grammar) (nodes : List Node) (rows : List Row) (m : ℕ) (low : Ar
   some_at i op kids node f h d e = ap (option_and_then f) (met_at i op kids node h ∙ met_yes node op kids d e)
 
   abbrev Good : Pattern → Type 0
-  Good p = (i : ℕ) (t : PlainTree) → i ≤ m → size t < 2 ^ 32 → IsRootAt nodes i t → ((n : ℕ) → p ≡ Leaf n → IsBestRow g t (row_at rows i)) → IsKidsCost g p t (room p t) (kids_cost p nodes rows i)
+  Good p = (i : ℕ) (t : PlainTree) → i ≤ m → size t < most_nodes + 1 → IsRootAt nodes i t → ((n : ℕ) → p ≡ Leaf n → IsBestRow g t (row_at rows i)) → IsKidsCost g p t (room p t) (kids_cost p nodes rows i)
 
   -- a pattern below an operator
-  below : (p : Pattern) → Good p → (i j : ℕ) (t : PlainTree) → i ≤ m → j < i → size t < 2 ^ 32 → IsRootAt nodes j t → IsKidsCost g p t (room p t) (kids_cost p nodes rows j)
+  below : (p : Pattern) → Good p → (i j : ℕ) (t : PlainTree) → i ≤ m → j < i → size t < most_nodes + 1 → IsRootAt nodes j t → IsKidsCost g p t (room p t) (kids_cost p nodes rows j)
   below p good i j t le lt few at = good j t (omega arith) few at (λ n e. low j t (omega arith) at)
 
   mismatch : (whole : Pattern) (t : PlainTree) (i o kids most : ℕ) (node : Node) (f : Node → Option Cost) → kids_cost whole nodes rows i ≡ option_and_then f (met (slice_get nodes i) o kids)
@@ -218,7 +219,7 @@ module _ (g : Grammar) (nodes : List Node) (rows : List Row) (m : ℕ) (low : Ar
   nullary o i op a node get is kids (inr d) =
       mismatch (Nullary o) (Node0 op a) i o 0 (size (Node0 op a) - 1) node (λ node. Some no_cost) refl get (inl (λ q. d (sym q ∙ is))) (if_false (o == op) (Some []) None (other_test o op d))
 
-  unary : (o : ℕ) (s : Shape) (p : Pattern) (i op : ℕ) (a : Attribute) (u : PlainTree) (node : Node) → Good p → i ≤ m → size (Node1 op a u) < 2 ^ 32 → slice_get nodes i ≡ Some node → node.operator ≡ op → node.kids ≡ 1
+  unary : (o : ℕ) (s : Shape) (p : Pattern) (i op : ℕ) (a : Attribute) (u : PlainTree) (node : Node) → Good p → i ≤ m → size (Node1 op a u) < most_nodes + 1 → slice_get nodes i ≡ Some node → node.operator ≡ op → node.kids ≡ 1
       → node.left < i → IsRootAt nodes node.left u → (o ≡ op) ⊎ (o ≡ op → ⊥)
       → IsKidsCost g (Unary' o s (more_of-Pattern p end_of-Pattern)) (Node1 op a u) (size (Node1 op a u) - 1) (kids_cost (Unary' o s (more_of-Pattern p end_of-Pattern)) nodes rows i)
   unary o s p i op a u node good le few get is kids lt root (inl e) =
@@ -229,7 +230,7 @@ module _ (g : Grammar) (nodes : List Node) (rows : List Row) (m : ℕ) (low : Ar
       mismatch (Unary' o s (more_of-Pattern p end_of-Pattern)) (Node1 op a u) i o 1 (size (Node1 op a u) - 1) node (λ node. kids_cost p nodes rows node.left) refl get (inl (λ q. d (sym q ∙ is)))
       (if_false (o == op) (subtrees p u) None (other_test o op d))
 
-  binary : (o : ℕ) (s s' : Shape) (p q : Pattern) (i op : ℕ) (a : Attribute) (u v : PlainTree) (node : Node) → Good p → Good q → i ≤ m → size (Node2 op a u v) < 2 ^ 32 → slice_get nodes i ≡ Some node → node.operator ≡ op → node.kids ≡ 2
+  binary : (o : ℕ) (s s' : Shape) (p q : Pattern) (i op : ℕ) (a : Attribute) (u v : PlainTree) (node : Node) → Good p → Good q → i ≤ m → size (Node2 op a u v) < most_nodes + 1 → slice_get nodes i ≡ Some node → node.operator ≡ op → node.kids ≡ 2
       → node.left < i → node.right < i → IsRootAt nodes node.left u → IsRootAt nodes node.right v → (o ≡ op) ⊎ (o ≡ op → ⊥)
       → IsKidsCost g (Binary' o s (more_of-Pattern p end_of-Pattern) s' (more_of-Pattern q end_of-Pattern)) (Node2 op a u v) (size (Node2 op a u v) - 1) (kids_cost (Binary' o s (more_of-Pattern p end_of-Pattern) s' (more_of-Pattern q end_of-Pattern)) nodes rows i)
   binary o s s' p q i op a u v node good good' le few get is kids lt lt' root root' (inl e) =

@@ -36,7 +36,7 @@ withstands_still rule r None old new keeps w = tt
 withstands_still rule r (Some c) old new keeps w = go (entry_at old rule.left) refl w
   where
     go : (o : Option Entry) → entry_at old rule.left ≡ o → Withstands o (Some c) rule r → Withstands (entry_at new rule.left) (Some c) rule r
-    go None q w = absurd w
+    go None q w = absurd w.0
     go (Some e) q w =
         let s = keeps rule.left e q in
         subst (λ o. Withstands o (Some c) rule r) (sym s.1) (no_later_trans s.0 e (offer_entry rule r c) s.2 w.0, w.1)

@@ -8,12 +8,8 @@ use Rattle.sel_grammar.specs.Firsts.{IsKept}
 use Rattle.sel_forest.specs.declared.forest.Node.{Node}
 use Rattle.sel_forest.specs.Places.{IsRootAt}
 use Rattle.sel_plain.specs.declared.entry.Entry.{Entry}
-use Rattle.sel_plain.specs.CostBounds.{IsUpTo}
+use Rattle.sel_plain.specs.CostBounds.{IsUpTo, per_node}
 use Rattle.sel_plain.specs.Rows.{Row, entry_at, row_at}
-
--- more than the rules at one node of a best derivation cost together, by either number
-abbrev pub per_node : ℕ
-per_node = 65536 * 64
 
 -- nothing derives the tree, or the entry has the best derivation's cost and first rule
 abbrev pub IsBestEntry : Grammar → ℕ → PlainTree → Option Entry → Type 0

@@ -1,14 +1,14 @@
 -- A node's row, as rules better it.
-use Rattle.std.specs.Prelude.{◌≡◌, ℕ, ◌+◌, ◌*◌, ◌<◌, ◌≤◌, ◌^◌, ◌⊎◌, if◌then◌else◌, Option, Some, None, List, length, slice_get, slice_set}
+use Rattle.std.specs.Prelude.{◌≡◌, ℕ, ◌+◌, ◌*◌, ◌≤◌, ◌^◌, ◌⊎◌, if◌then◌else◌, Option, Some, None, List, length, slice_get, slice_set}
 use Rattle.std.specs.List.{sum_by}
 use Rattle.sel_grammar.specs.declared.grammar.Grammar.{Grammar}
 use Rattle.sel_grammar.specs.declared.grammar.Rule.{Rule}
 use Rattle.sel_grammar.specs.Costs.{Cost, ◌⊕◌, IsCheaper, price}
-use Rattle.sel_grammar.specs.Limits.{greatest_cost}
+use Rattle.sel_grammar.specs.Limits.{greatest_cost, most_nonterminals}
 use Rattle.sel_grammar.specs.Fits.{rule_at}
 use Rattle.sel_forest.specs.declared.forest.Node.{Node}
 use Rattle.sel_plain.specs.declared.entry.Entry.{Entry}
-use Rattle.sel_plain.specs.CostBounds.{capped_sum, IsUpTo, IsNoDearer, is_dearer, cost_place}
+use Rattle.sel_plain.specs.CostBounds.{capped_sum, IsUpTo, IsNoDearer, is_dearer, cost_place, per_tree}
 use Rattle.sel_plain.specs.declared.kind.RuleKind.{RuleKind}
 use Rattle.sel_plain.specs.declared.kind.RuleKind.TheVariants.{Operator}
 use Rattle.sel_plain.specs.Kinds.{kind_of}
@@ -23,19 +23,23 @@ IsNoLater a b = IsCheaper a.cost b.cost ⊎ ((a.cost ≡ b.cost) × (a.rule ≤ 
 abbrev pub offer_entry : Rule → ℕ → Cost → Entry
 offer_entry rule r c = record { cost = capped_sum (price rule) c; rule = r }
 
--- an entry withstands what a rule offers: it is no later
-abbrev pub Withstands : Option Entry → Option Cost → Rule → ℕ → Type 0
-Withstands o None rule r = Unit {0}
-Withstands None (Some c) rule r = ⊥
-Withstands (Some e) (Some c) rule r = IsNoLater e (offer_entry rule r c) × IsUpTo greatest_cost (price rule)
+-- what a place has is no later than an entry
+abbrev pub KeepsOut : Option Entry → Entry → Type 0
+KeepsOut None f = ⊥
+KeepsOut (Some e) f = IsNoLater e f
 
--- the row takes what the rule offers, since no entry withstood it
+-- a place withstands what a rule offers: there is no offer, or the place keeps it out
+abbrev pub Withstands : Option Entry → Option Cost → Rule → ℕ → Type 0
+Withstands place None rule r = Unit {0}
+Withstands place (Some c) rule r = KeepsOut place (offer_entry rule r c) × IsUpTo greatest_cost (price rule)
+
+-- the row takes what the rule offers, since its place doesn't keep it out
 pub record IsBettered (rule : Rule) (r : ℕ) (offer : Option Cost) (old new : Row) : Type 0 where
   pub kids : Cost
   pub cheap : IsUpTo greatest_cost (price rule)
   pub offered : offer ≡ Some kids
   pub set : new ≡ slice_set old rule.left (Some (offer_entry rule r kids))
-  pub later : (e : Entry) → entry_at old rule.left ≡ Some e → IsNoLater e (offer_entry rule r kids) → ⊥
+  pub later : KeepsOut (entry_at old rule.left) (offer_entry rule r kids) → ⊥
 
 -- the offers of all rules of a kind are withstood
 abbrev pub KindWithstood : RuleKind → Grammar → List Node → List Row → Row → ℕ → Type 0
@@ -46,7 +50,7 @@ KindWithstood kind g nodes rows row i =
 abbrev pub Keeps : Row → Row → Type 0
 Keeps old new = (n : ℕ) (e : Entry) → entry_at old n ≡ Some e → (f : Entry) × (entry_at new n ≡ Some f) × IsNoLater f e
 
--- how far an entry is from the least one
+-- how far an entry is from the least one: costs have places below 2 ^ 128, and rules have numbers below 2 ^ 16
 abbrev pub distance : Option Entry → ℕ
 distance None = 2 ^ 145
 distance (Some e) = cost_place e.cost * 2 ^ 16 + e.rule
@@ -71,7 +75,7 @@ pub record IsBacked (g : Grammar) (nodes : List Node) (rows : List Row) (row : R
   pub kids : Cost
   pub offered : offered rule nodes rows row i ≡ Some kids
   pub no_more : IsNoDearer (price rule ⊕ kids) e.cost
-  pub small : IsUpTo (base + 65536 * count_to e.cost row) e.cost
+  pub small : IsUpTo (base + greatest_cost * count_to e.cost row) e.cost
 
 abbrev pub AllBacked : Grammar → List Node → List Row → Row → ℕ → ℕ → Type 0
 AllBacked g nodes rows row i base = (n : ℕ) (e : Entry) → entry_at row n ≡ Some e → IsBacked g nodes rows row i base n e
@@ -82,4 +86,4 @@ OperatorOffers g nodes rows i base = (rule : Rule) (row : Row) (c : Cost) → ki
 
 -- where the old row's entries are backed, so are the new row's
 abbrev pub KeepsBacked : Grammar → List Node → List Row → ℕ → Row → Row → Type 0
-KeepsBacked g nodes rows i old new = (base : ℕ) → base < 2 ^ 60 → length old ≤ 2 ^ 16 → OperatorOffers g nodes rows i base → AllBacked g nodes rows old i base → AllBacked g nodes rows new i base
+KeepsBacked g nodes rows i old new = (base : ℕ) → base ≤ per_tree → length old ≤ most_nonterminals → OperatorOffers g nodes rows i base → AllBacked g nodes rows old i base → AllBacked g nodes rows new i base

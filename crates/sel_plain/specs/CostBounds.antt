@@ -2,6 +2,8 @@
 use Rattle.std.specs.Prelude.{◌≡◌, ℕ, ◌+◌, ◌-◌, ◌*◌, ◌≤◌, ◌^◌, min, ℤ, pos, negsuc, ◌+ℤ◌, ◌≤ℤ◌, Bool, ◌&&◌, ◌||◌, ◌==◌, ◌⊎◌}
 use Rattle.std.specs.Int.{saturate_to_bits}
 use Rattle.std.specs.Prelude.{nat_lt, int_lt}
+use Rattle.sel_forest.specs.Limits.{most_nodes}
+use Rattle.sel_grammar.specs.Limits.{greatest_cost, most_nonterminals}
 use Rattle.sel_grammar.specs.Costs.{Cost, IsCheaper}
 
 -- the sum, each number stopping at the end of its type
@@ -30,3 +32,11 @@ from_least (negsuc n) = 2 ^ 63 - (n + 1)
 -- a number for each cost of two 64-bit numbers, in the order of costs
 abbrev pub cost_place : Cost → ℕ
 cost_place c = c.first * 2 ^ 64 + from_least c.second
+
+-- the rules at one node of a best derivation cost no more together, by either number: a chain of them meets no nonterminal twice
+abbrev pub per_node : ℕ
+per_node = greatest_cost * most_nonterminals
+
+-- nor do those at all nodes
+abbrev pub per_tree : ℕ
+per_tree = per_node * most_nodes

@@ -54,7 +54,7 @@ pub fn written(
     table: &Table,
     goal: Goal,
 ) -> Result<Vec<u16>, NoMemory>
-    requires means { AreBestRows grammar.now nodes.now table.now.rows (length nodes.now) }
+    requires rows { AreBestRows grammar.now nodes.now table.now.rows (length nodes.now) }
     requires best { IsHalfWritten grammar.now nodes.now goal [] (goal ∷ []) }
     ensures { IfOk result (λ rules. IsHalfWritten grammar.now nodes.now goal rules.items []) }
 {

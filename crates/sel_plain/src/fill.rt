@@ -1,4 +1,5 @@
-ghost use Rattle.std.specs.Prelude.{◌≡◌, ◌<◌, ◌≤◌, ◌^◌, length, IfOk};
+ghost use Rattle.std.specs.Prelude.{◌≡◌, ◌+◌, length, IfOk};
+ghost use Rattle.sel_forest.specs.Limits.{most_nodes};
 ghost use Rattle.sel_grammar.specs.Chains.{HasNoFreeCycle};
 ghost use Rattle.sel_grammar.specs.Limits.{IsWithinLimits};
 ghost use Rattle.sel_plain.specs.BestRows.{AreBestRows};
@@ -15,7 +16,7 @@ use std::alloc::Global;
 pub fn filled(alloc: Global, grammar: &Grammar, nodes: &[Node]) -> Result<Table, NoMemory>
     requires limits { IsWithinLimits grammar.now }
     requires free { HasNoFreeCycle grammar.now }
-    requires sizes { SizesBelow nodes.now (2 ^ 32) }
+    requires sizes { SizesBelow nodes.now (most_nodes + 1) }
     ensures { IfOk result (λ table. AreBestRows grammar.now nodes.now table.rows (length nodes.now)) }
 {
     let width = grammar.nonterminals.len();

@@ -1,5 +1,5 @@
-ghost use Rattle.std.specs.Prelude.{◌≡◌, ◌<◌, ◌≤◌, ◌+◌, ◌*◌, ◌^◌, ◌↔◌, ℕ, List, length, slice_get, Some, IsTrue, IfOk, true, false, None, replicate};
-ghost use Rattle.sel_grammar.specs.declared.grammar.Rule.{Rule};
+ghost use Rattle.std.specs.Prelude.{◌≡◌, ◌<◌, ◌+◌, ℕ, length, true, false};
+ghost use Rattle.sel_forest.specs.Limits.{most_nodes};
 ghost use Rattle.sel_grammar.specs.PlainTrees.{PlainTree};
 ghost use Rattle.sel_grammar.specs.Chains.{HasNoFreeCycle};
 ghost use Rattle.sel_grammar.specs.Limits.{IsWithinLimits};
@@ -8,18 +8,18 @@ ghost use Rattle.sel_plain.specs.BestRows.{IsBestRow, AreBestRows};
 ghost use Rattle.sel_plain.specs.Kinds.{kind_of};
 ghost use Rattle.sel_plain.specs.Rows.{entry_at};
 ghost use Rattle.sel_plain.specs.Offers.{offered};
-ghost use Rattle.sel_plain.specs.Bettering.{IsNoLater, Withstands, IsBettered, KindWithstood, Keeps, AllBacked, OperatorOffers, total_distance, KeepsBacked};
+ghost use Rattle.sel_plain.specs.Bettering.{Withstands, IsBettered, KindWithstood, Keeps, KeepsBacked, total_distance};
 
 use crate::cost::{capped_sum, paid};
-use crate::entry::{Entry, is_no_later};
+use crate::entry::{Entry, is_kept_out};
 use crate::kind::{RuleKind, kind_of};
 use crate::offer::offered;
 use crate::table::{Table, entry_of};
 use sel_forest::Node;
 use sel_grammar::{Grammar, Rule};
 
-/// Whether the row takes what the rule offers.
-pub fn improve(
+/// Offers the rule with the number to the row. Whether the row took the offer.
+fn offer(
     rule: &Rule,
     number: u16,
     nodes: &[Node],
@@ -34,35 +34,26 @@ pub fn improve(
     ensures bettered { result ≡ true
         → IsBettered rule.now number (offered rule.now nodes.now table.now.rows row.old at) row.old row.new }
 {
-    let offer = offered(rule, nodes, table, row, at);
-    match offer {
-        None => false,
-        Some(kids_cost) => {
+    let left = rule.left as usize;
+    match offered(rule, nodes, table, row, at) {
+        Some(kids) => {
             let entry = Entry {
-                cost: capped_sum(paid(rule.cost), kids_cost),
+                cost: capped_sum(paid(rule.cost), kids),
                 rule: number,
             };
-            let old = entry_of(row, rule.left as usize);
-            match old {
-                Some(old) => {
-                    if is_no_later(old, entry) {
-                        false
-                    } else {
-                        row[rule.left as usize] = Some(entry);
-                        true
-                    }
-                }
-                None => {
-                    row[rule.left as usize] = Some(entry);
-                    true
-                }
+            if is_kept_out(entry_of(row, left), entry) {
+                false
+            } else {
+                row[left] = Some(entry);
+                true
             }
         }
+        None => false,
     }
 }
 
 /// Offers the rule to the row, if it is of the kind.
-fn improve_by_kind(
+fn offer_if(
     kind: RuleKind,
     rule: &Rule,
     number: u16,
@@ -79,7 +70,7 @@ fn improve_by_kind(
         → IsBettered rule.now number (offered rule.now nodes.now table.now.rows row.old at) row.old row.new }
 {
     if kind_of(&rule.pattern) == kind {
-        improve(rule, number, nodes, table, row, at)
+        offer(rule, number, nodes, table, row, at)
     } else {
         false
     }
@@ -105,13 +96,14 @@ pub fn offer_all(
 {
     let mut changed = false;
     for (k, rule) in grammar.rules.as_slice().iter().enumerate() {
-        if improve_by_kind(kind, rule, (k + 1) as u16, nodes, table, row, at) {
+        if offer_if(kind, rule, (k + 1) as u16, nodes, table, row, at) {
             changed = true;
         }
     }
     changed
 }
 
+/// Empties each place.
 fn clear(row: &mut [Option<Entry>])
     ensures { (n : ℕ) → entry_at row.new n ≡ None }
 {
@@ -131,7 +123,7 @@ pub fn close_row(
 )
     requires limits { IsWithinLimits grammar.now }
     requires free { HasNoFreeCycle grammar.now }
-    requires sizes { SizesBelow nodes.now (2 ^ 32) }
+    requires sizes { SizesBelow nodes.now (most_nodes + 1) }
     requires lower { AreBestRows grammar.now nodes.now table.now.rows at }
     requires long { length row.old ≡ length grammar.now.nonterminals }
     ensures { (t : PlainTree) → IsRootAt nodes.now at t → IsBestRow grammar.now t row.new }

@@ -36,6 +36,7 @@ pub fn entry_of(row: &[Option<Entry>], nonterminal: usize) -> Option<Entry>
 }
 
 impl Table {
+    /// A table without rows, each of which is to have so many places.
     pub fn new(alloc: Global, width: usize) -> Table
         ensures { result ≡ record { width = width; rows = [] } }
     {
@@ -46,6 +47,7 @@ impl Table {
         }
     }
 
+    /// Puts the row behind the others.
     pub fn push(&mut self, row: &[Option<Entry>]) -> Result<(), NoMemory>
         requires width { length row.now ≡ self.old.width }
         requires few { length self.old.rows < usize.MAX }

@@ -1,5 +1,6 @@
 -- The root's entry tells the cost, and the list is written from it.
-use Rattle.std.proofs.Common.{arith, ◌^◌, sym, ◌∙◌, subst}
+use Rattle.std.proofs.Common.{arith, sym, ◌∙◌, subst, ◌+◌}
+use Rattle.sel_forest.specs.Limits.{most_nodes}
 use Rattle.sel_forest.specs.Covers.{IsBestCover}
 use Rattle.sel_forest.proofs.Roots.{SizesBelow-spelled, some_node}
 use Rattle.sel_plain.proofs.Answer.{root_none, root_partly, root_best}
@@ -8,7 +9,7 @@ use Rattle.sel_plain.proofs.best.least.Goals as goal
 pub filled-requires-clause-sizes : goal.filled-requires-clause-sizes
 filled-requires-clause-sizes c =
     let (t, postorder, small) = c.requires.tree in
-    SizesBelow-spelled c.as_slice-nodes.result.now t (2 ^ 32) (c.as_slice-nodes.ensures ∙ postorder) (omega arith)
+    SizesBelow-spelled c.as_slice-nodes.result.now t (most_nodes + 1) (c.as_slice-nodes.ensures ∙ postorder) (omega arith)
 
 pub overflow_sub-goal : goal.overflow_sub-goal
 overflow_sub-goal c = let (t, postorder, small) = c.requires.tree in some_node c.as_slice-nodes.result.now t (c.as_slice-nodes.ensures ∙ postorder)

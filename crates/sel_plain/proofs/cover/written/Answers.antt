@@ -10,7 +10,7 @@ step-requires c =
     let nodes = c.args.nodes.now in
     let partly : IsHalfWritten g nodes c.args.goal c.loop-next.rules.items (c.pop.new.self.items ++ c.in-Some.next ∷ []) =
     subst (λ x. IsHalfWritten g nodes c.args.goal c.loop-next.rules.items x) c.in-Some.ensures.items c.loop-next.invariant in
-    top_rule g nodes c.args.table.now.rows c.requires.means c.in-Some.next c.args.goal c.loop-next.rules.items c.pop.new.self.items partly
+    top_rule g nodes c.args.table.now.rows c.requires.rows c.in-Some.next c.args.goal c.loop-next.rules.items c.pop.new.self.items partly
 
 pub loop-next-preserved : goal.loop-next-preserved
 loop-next-preserved c =
@@ -18,5 +18,5 @@ loop-next-preserved c =
     let nodes = c.args.nodes.now in
     let partly : IsHalfWritten g nodes c.args.goal c.loop-next.rules.items (c.pop.new.self.items ++ c.in-Some.next ∷ []) =
     subst (λ x. IsHalfWritten g nodes c.args.goal c.loop-next.rules.items x) c.in-Some.ensures.items c.loop-next.invariant in
-    IsHalfWritten-step g nodes c.args.table.now.rows c.requires.means c.in-Some.next c.args.goal c.loop-next.rules.items c.pop.new.self.items partly
+    IsHalfWritten-step g nodes c.args.table.now.rows c.requires.rows c.in-Some.next c.args.goal c.loop-next.rules.items c.pop.new.self.items partly
     c.step.new.rules.items c.step.new.stack.items c.in_ok-step.ensures

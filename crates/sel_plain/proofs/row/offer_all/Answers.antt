@@ -6,7 +6,7 @@ use Rattle.sel_plain.specs.Bettering.{Keeps, total_distance, KeepsBacked}
 use Rattle.sel_plain.proofs.Turns.{KindTo, KindTo-more, Operators-bettered, KeepsBacked-bettered, long_more, falls_more}
 use Rattle.sel_plain.proofs.Betters.{total_distance-bettered, Keeps-bettered, Keeps-trans}
 use Rattle.sel_plain.proofs.row.offer_all.Goals as goal
-use Rattle.sel_plain.proofs.row.offer_all.Goals.{then-improve_by_kind, else-improve_by_kind}
+use Rattle.sel_plain.proofs.row.offer_all.Goals.{then-offer_if, else-offer_if}
 
 pub loop-k-preserved : goal.loop-k-preserved
 loop-k-preserved c =
@@ -15,7 +15,7 @@ loop-k-preserved c =
     let rows = c.args.table.now.rows in
     let old = c.args.row.now in
     let row = c.loop-k.row in
-    let new = c.improve_by_kind.new.row in
+    let new = c.offer_if.new.row in
     let rule = c.rule-item.result in
     let k = c.loop-k.k in
     let items = c.as_slice-rule-items.ensures in
@@ -23,9 +23,9 @@ loop-k-preserved c =
     let within : k < length g.rules = slice_get_within g.rules k rule at in
     let i = c.loop-k.invariant in
     let inside : rule.left < length row = let h = c.requires.limits.lefts k rule at in let q = i.long in let z = c.requires.long in omega arith in
-    elim c.if-improve_by_kind.branch [
-      | then-improve_by_kind w ↦
-          let b = c.improve_by_kind.ensures.bettered w.if-improve_by_kind.true in
+    elim c.if-offer_if.branch [
+      | then-offer_if w ↦
+          let b = c.offer_if.ensures.bettered w.if-offer_if.true in
           record {
             long = long_more g nodes rows c.args.at row new k rule at inside b old i.long;
             stays = λ e. cc;
@@ -35,15 +35,15 @@ loop-k-preserved c =
             keeps = Keeps-trans old row new i.keeps (Keeps-bettered rule _ _ row new inside b);
             backed = KeepsBacked-bettered g nodes rows c.args.at row new k rule at inside b old i.long i.backed;
           }
-      | else-improve_by_kind w ↦
-          let same : new ≡ row = c.improve_by_kind.ensures.stays w.if-improve_by_kind.false in
+      | else-offer_if w ↦
+          let same : new ≡ row = c.offer_if.ensures.stays w.if-offer_if.false in
           record {
             long = ap length same ∙ i.long;
             stays = λ e. same ∙ i.stays (sym w.changed-is ∙ e);
             withstood = λ e. subst (λ x. KindTo g nodes rows c.args.at c.args.kind (k + 1) x) (sym same)
-                (KindTo-more g nodes rows c.args.at c.args.kind k row rule at (i.withstood (sym w.changed-is ∙ e)) (c.improve_by_kind.ensures.withstands w.if-improve_by_kind.false));
+                (KindTo-more g nodes rows c.args.at c.args.kind k row rule at (i.withstood (sym w.changed-is ∙ e)) (c.offer_if.ensures.withstands w.if-offer_if.false));
             operators = λ q. subst (λ x. KindTo g nodes rows c.args.at Operator (k + 1) x) (sym same)
-                (KindTo-more g nodes rows c.args.at Operator k row rule at (i.operators q) (λ p. c.improve_by_kind.ensures.withstands w.if-improve_by_kind.false (p ∙ sym q)));
+                (KindTo-more g nodes rows c.args.at Operator k row rule at (i.operators q) (λ p. c.offer_if.ensures.withstands w.if-offer_if.false (p ∙ sym q)));
             falls = λ e. subst (λ x. total_distance x < total_distance old) (sym same) (i.falls (sym w.changed-is ∙ e));
             keeps = subst (λ x. Keeps old x) (sym same) i.keeps;
             backed = subst (λ x. KeepsBacked g nodes rows c.args.at old x) (sym same) i.backed;
