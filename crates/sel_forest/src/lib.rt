@@ -4,7 +4,9 @@
 mod forest;
 pub mod laws;
 pub mod limits;
+mod line;
 mod refusal;
+mod tokens;
 mod walk;
 
 pub use forest::{Cover, Forest, Node, Tree};

@@ -1,0 +1,26 @@
+-- What the code's tokens stand for.
+use Rattle.std.specs.Prelude.{◌≡◌, ℕ, Bool, true, List, ◌∷◌}
+use Rattle.std.specs.Str.Parse.{AllDigits}
+use Rattle.sel_forest.specs.declared.tokens.Piece.{Piece}
+use Rattle.sel_forest.specs.declared.tokens.Piece.TheVariants as piece
+use Rattle.sel_forest.specs.Tokens.{Token, Name, Number, Symbol, Colon, Open, Comma, Close, Bad, End}
+use Rattle.sel_forest.specs.Symbols.{IsSymbol}
+use Rattle.sel_forest.specs.TreeText.{without_sign}
+
+-- a token of the code, without where its bytes lie
+abbrev pub view : Piece → Token
+view (piece.Name bytes) = Name bytes.now
+view (piece.Number bytes) = Number bytes.now
+view (piece.Symbol bytes) = Symbol bytes.now
+view piece.Colon = Colon
+view piece.Open = Open
+view piece.Comma = Comma
+view piece.Close = Close
+view (piece.Bad b) = Bad b
+view piece.End = End
+
+-- a number is digits behind an optional sign, and a symbol is a lawful one
+abbrev pub IsLawful : Token → Type 0
+IsLawful (Number bytes) = AllDigits 10 (without_sign bytes)
+IsLawful (Symbol bytes) = IsSymbol bytes
+IsLawful _ = Unit {0}
