@@ -3,3 +3,7 @@ pub mod Matching
 pub mod Roots
 pub mod Lying
 pub mod LineExamples
+pub mod Viable
+pub mod Strides
+pub mod Digits
+pub mod PutDown

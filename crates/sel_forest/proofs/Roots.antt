@@ -45,7 +45,7 @@ slice_get-right [] ys k j h = let q : j ≡ k = omega arith in ap (slice_get ys)
 slice_get-right (x ∷ xs) ys k zero h = absurd (omega arith)
 slice_get-right (x ∷ xs) ys k (suc j) h = slice_get-right xs ys k j (omega arith)
 
-length-postorder : (t : PlainTree) (base : ℕ) → length (postorder base t) ≡ size t
+pub length-postorder : (t : PlainTree) (base : ℕ) → length (postorder base t) ≡ size t
 length-postorder (Node0 op a) base = refl
 length-postorder (Node1 op a t) base =
     let n : Node = record { operator = op; kids = 1; left = base + size t - 1; right = 0; attribute = a } in
@@ -57,7 +57,7 @@ length-postorder (Node2 op a t u) base =
     let k = length-postorder u (base + size t) in
     omega (arith, length-append (postorder base t) (postorder (base + size t) u ++ n ∷ []), length-append (postorder (base + size t) u) (n ∷ []))
 
-size_some : (t : PlainTree) → 1 ≤ size t
+pub size_some : (t : PlainTree) → 1 ≤ size t
 size_some (Node0 op a) = omega arith
 size_some (Node1 op a t) = omega arith
 size_some (Node2 op a t u) = omega arith

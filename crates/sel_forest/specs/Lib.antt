@@ -9,6 +9,8 @@ pub mod Machine
 pub mod TreeText
 pub mod LineFaults
 pub mod ForestText
+pub mod OpenNodes
+pub mod Surroundings
 pub mod Places
 pub mod Covers
 pub mod Laws

@@ -3,16 +3,12 @@ use Rattle.std.specs.Prelude.{◌≡◌, ℕ, suc, ◌+◌, ◌^◌, ◌<◌, �
 use Rattle.std.specs.Str.Parse.{digits_value}
 use Rattle.sel_grammar.specs.declared.grammar.Grammar.{Grammar}
 use Rattle.sel_grammar.specs.declared.grammar.Operator.{Operator}
+use Rattle.sel_forest.specs.declared.faults.Parent.{Parent}
 use Rattle.sel_forest.specs.Limits as limits
 use Rattle.sel_forest.specs.Limits.{most_trees, most_nodes, greatest_depth}
 use Rattle.sel_forest.specs.Tokens.{Token, Name, Number, Open, Comma, Close, End, first, after, start, token_at, place}
 use Rattle.sel_forest.specs.Form.{IsLine, GoesOn}
 use Rattle.sel_forest.specs.TreeText.{number_of, is_negative, without_sign}
-
--- an operator whose parenthesis is open, and how many of its kids are whole
-pub record Parent : Type 0 where
-  pub operator : ℕ
-  pub kids : ℕ
 
 -- What surrounds the place behind some tokens: how many names came, the operator that came last if no parenthesis
 -- followed it, and the parents there, the innermost first.

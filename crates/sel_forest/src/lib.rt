@@ -1,10 +1,13 @@
 //! Forests of trees in postorder, and covers.
 #![tactic(auto)]
 
+mod build;
+mod faults;
 mod forest;
 pub mod laws;
 pub mod limits;
 mod line;
+mod number;
 mod refusal;
 mod tokens;
 mod walk;
