@@ -7,3 +7,5 @@ pub mod Viable
 pub mod Strides
 pub mod Digits
 pub mod PutDown
+pub mod Reading
+pub mod Stepping

@@ -1,14 +1,14 @@
 -- Ending the innermost open node puts its node down behind its kids' nodes.
 use Rattle.std.proofs.Common.{◌≡◌, ℕ, suc, zero, ◌+◌, ◌-◌, ◌≤◌, ◌<◌, List, [], ◌∷◌, ◌++◌, Option, Some, None, refl, ap, sym, ◌∙◌, subst, arith, length, length-append, append_assoc, append-nil, slice_get, map}
 use Rattle.std.specs.Option.{option_map}
-use Rattle.std.proofs.lemmas.Option.{slice_get_within}
+use Rattle.std.proofs.lemmas.List.{length-map}
 use Rattle.sel_grammar.specs.declared.grammar.Attribute.{Attribute}
 use Rattle.sel_grammar.specs.declared.grammar.Attribute.TheVariants as attribute
 use Rattle.sel_grammar.specs.PlainTrees.{PlainTree, Node0, Node1, Node2, size}
 use Rattle.sel_forest.specs.declared.forest.Node.{Node}
 use Rattle.sel_forest.specs.declared.faults.Parent.{Parent}
 use Rattle.sel_forest.specs.Postorder.{postorder}
-use Rattle.sel_forest.specs.OpenNodes.{Opened, Fresh, Half, Full, operator_of, kid_count, whole, kids_nodes, own_node, put_down, own_nodes, attached, with_kid, closed, with_attribute, IsClosable, Holds, parent_of, behind_first, first_parent}
+use Rattle.sel_forest.specs.OpenNodes.{Opened, Fresh, Half, Full, operator_of, kid_count, whole, kids_nodes, own_node, put_down, own_nodes, attached, with_kid, closed, with_attribute, IsClosable, Holds, parent_of, behind_first, first_parent, first_operator}
 use Rattle.sel_forest.proofs.Roots.{length-postorder, size_some, slice_get-right, slice_get-left}
 
 -- a whole node's list is its kids' lists and its own node
@@ -76,12 +76,12 @@ name_held os stack stack' nodes op h e = record {
 }
 
 -- An attribute is the innermost node's.
-abbrev marked : Attribute → Node → Node
+abbrev pub marked : Attribute → Node → Node
 marked x n = record { operator = n.operator; kids = n.kids; left = n.left; right = n.right; attribute = x }
 
 pub attribute_held : (os : List Opened) (stack stack' nodes : List Node) (x : Attribute) → Holds os stack nodes
     → ((below : List Node) (inner : Node) → stack ≡ below ++ (inner ∷ []) → stack' ≡ below ++ (marked x inner ∷ []))
-    → 1 ≤ length os → Holds (with_attribute x os) stack' nodes
+    → 0 < length os → Holds (with_attribute x os) stack' nodes
 attribute_held [] stack stack' nodes x h set some = absurd (omega arith)
 attribute_held (Fresh op a ∷ os) stack stack' nodes x h set some =
     record { stack_is = set (own_nodes os) (own_node (length (put_down os)) (Fresh op a)) h.stack_is; nodes_are = h.nodes_are }
@@ -111,7 +111,7 @@ root_nodes root stack nodes h = ap (λ x. x ++ (own_node 0 root ∷ [])) h.nodes
 
 -- The innermost node, and the one around it.
 
-abbrev as_parent : Node → Parent
+abbrev pub as_parent : Node → Parent
 as_parent n = record { operator = n.operator; kids = n.kids }
 
 own_parent : (base : ℕ) (o : Opened) → as_parent (own_node base o) ≡ parent_of o
@@ -119,12 +119,14 @@ own_parent base (Fresh op a) = refl
 own_parent base (Half op a t) = refl
 own_parent base (Full op a t u) = refl
 
-pub last_given : (os : List Opened) (stack : List Node) (x : Option Node) → stack ≡ own_nodes os → x ≡ slice_get stack (length stack - 1) → option_map as_parent x ≡ first_parent (map parent_of os)
-last_given [] stack x e g = ap (option_map as_parent) (g ∙ ap (λ s. slice_get s (length s - 1)) e)
-last_given (o ∷ os) stack x e g =
+pub last_given_at : (os : List Opened) (stack : List Node) (x : Option Node) (at : ℕ) → stack ≡ own_nodes os → at + 1 ≡ length stack → x ≡ slice_get stack at
+    → option_map as_parent x ≡ first_parent (map parent_of os)
+last_given_at [] stack x at e l g = absurd (omega (arith, ap length e))
+last_given_at (o ∷ os) stack x at e l g =
     let n = own_node (length (put_down os)) o in
-    let at : length (own_nodes (o ∷ os)) - 1 ≡ length (own_nodes os) + 0 = omega (arith, length-append (own_nodes os) (n ∷ [])) in
-    ap (option_map as_parent) (g ∙ ap (λ s. slice_get s (length s - 1)) e ∙ slice_get-right (own_nodes os) (n ∷ []) 0 _ at) ∙ ap Some (own_parent (length (put_down os)) o)
+    let b : length (own_nodes (o ∷ os)) ≡ length (own_nodes os) + 1 = length-append (own_nodes os) (n ∷ []) in
+    let c : length stack ≡ length (own_nodes (o ∷ os)) = ap length e in
+    ap (option_map as_parent) (g ∙ ap (λ s. slice_get s at) e ∙ slice_get-right (own_nodes os) (n ∷ []) 0 at (omega arith)) ∙ ap Some (own_parent (length (put_down os)) o)
 
 pub second_none : (os : List Opened) (stack : List Node) → stack ≡ own_nodes os → length stack < 2 → first_parent (map parent_of (behind_first os)) ≡ None
 second_none [] stack e h = refl
@@ -144,3 +146,18 @@ second_given (o ∷ p ∷ os) stack x at e l g =
     ap (option_map as_parent) (g ∙ ap (λ s. slice_get s at) e ∙ slice_get-left (own_nodes (p ∷ os)) (n ∷ []) at (omega arith)
     ∙ slice_get-right (own_nodes os) (m ∷ []) 0 at (omega arith))
     ∙ ap Some (own_parent (length (put_down os)) p)
+
+pub last_none : (os : List Opened) (stack : List Node) → stack ≡ own_nodes os → length stack < 1 → first_parent (map parent_of os) ≡ None
+last_none [] stack e h = refl
+last_none (o ∷ os) stack e h = absurd (omega (arith, ap length e, length-own (o ∷ os)))
+
+pub behind_length : (os : List Opened) (stack : List Node) → stack ≡ own_nodes os → length (map parent_of (behind_first os)) ≡ length stack - 1
+behind_length [] stack e = omega (arith, ap length e)
+behind_length (o ∷ os) stack e = let l = length-map os parent_of in omega (arith, ap length e, length-own (o ∷ os), l)
+
+pub all_length : (os : List Opened) (stack : List Node) → stack ≡ own_nodes os → length (map parent_of os) ≡ length stack
+all_length os stack e = let l = length-map os parent_of in omega (arith, ap length e, length-own os, l)
+
+pub first_bare : (os : List Opened) → option_map (λ (p : Parent). p.operator) (first_parent (map parent_of os)) ≡ first_operator os
+first_bare [] = refl
+first_bare (o ∷ os) = refl

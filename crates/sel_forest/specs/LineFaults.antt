@@ -1,5 +1,5 @@
 -- The first fault of a line.
-use Rattle.std.specs.Prelude.{◌≡◌, ℕ, suc, ◌+◌, ◌^◌, ◌<◌, ◌==◌, ◌&&◌, ◌||◌, Bool, true, false, nat_lt, nat_le, List, [], ◌∷◌, length, slice_get, Option, Some, None, if◌then◌else◌}
+use Rattle.std.specs.Prelude.{◌≡◌, ℕ, suc, ◌+◌, ◌^◌, ◌<◌, ◌==◌, ◌&&◌, ◌||◌, Bool, true, false, nat_lt, nat_le, List, [], ◌∷◌, length, slice_get, unwrap_or, Option, Some, None, if◌then◌else◌}
 use Rattle.std.specs.Str.Parse.{digits_value}
 use Rattle.sel_grammar.specs.declared.grammar.Grammar.{Grammar}
 use Rattle.sel_grammar.specs.declared.grammar.Operator.{Operator}
@@ -47,12 +47,12 @@ around g ts = around_from g (record { names = 0; bare = None; parents = [] }) ts
 -- the least number of kids: the arity, or 0 where that is open
 abbrev pub least_of : Option Operator → ℕ
 least_of None = 0
-least_of (Some operator) = elim operator.arity [ None ↦ 0 | Some kids ↦ kids ]
+least_of (Some operator) = unwrap_or operator.arity 0
 
 -- the greatest number of kids: the arity, or 2 where that is open
 abbrev pub most_of : Option Operator → ℕ
 most_of None = 2
-most_of (Some operator) = elim operator.arity [ None ↦ 2 | Some kids ↦ kids ]
+most_of (Some operator) = unwrap_or operator.arity 2
 
 abbrev pub least_kids : Grammar → ℕ → ℕ
 least_kids g op = least_of (slice_get g.operators op)

@@ -96,7 +96,8 @@ IsClosable (inner ∷ outer ∷ os) = kid_count outer < 2
 
 -- the open nodes take the token
 abbrev pub TakesToken : List Opened → Token → Type 0
-TakesToken os (Number bytes) = is_too_large bytes ≡ false
+TakesToken os (Number bytes) = (is_too_large bytes ≡ false) × (0 < length os)
+TakesToken os (Symbol bytes) = 0 < length os
 TakesToken os Comma = IsClosable os
 TakesToken os Close = IsClosable os
 TakesToken os _ = Unit {0}

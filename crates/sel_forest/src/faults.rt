@@ -175,7 +175,10 @@ fn as_parent(node: &Node) -> Parent
 fn last_parent(stack: &[Node]) -> Option<Parent>
     ensures { (os : List Opened) → stack.now ≡ own_nodes os → result ≡ first_parent (map parent_of os) }
 {
-    match stack.last() {
+    let Some(at) = stack.len().checked_sub(1) else {
+        return None;
+    };
+    match node_at(stack, at) {
         None => None,
         Some(node) => Some(as_parent(node)),
     }

@@ -1,13 +1,14 @@
-use Rattle.std.proofs.Common.{◌≡◌, refl, ap, sym, ◌∙◌, arith}
+use Rattle.std.proofs.Common.{◌≡◌, Some, refl, ap, sym, ◌∙◌, arith}
 use Rattle.std.specs.Option.{option_copied, option_map}
 use Rattle.sel_forest.proofs.PutDown.{second_none, second_given, as_parent}
 use Rattle.sel_forest.proofs.faults.second_parent.Goals as goal
 
 pub returns-in_default : goal.returns-in_default
-returns-in_default c = λ os e. ?
+returns-in_default c = λ os e. let short = c.in_default.ensures in sym (second_none os c.args.stack.now e (omega (arith, short)))
 
 pub returns-in-None : goal.returns-in-None
-returns-in-None c = λ os e. ?
+returns-in-None c = λ os e. second_given os c.args.stack.now _ c.in-Some.at e (omega (arith, c.in-Some.ensures)) c.in-None.ensures
 
 pub returns-in-Some-node_at : goal.returns-in-Some-node_at
-returns-in-Some-node_at c = λ os e. ?
+returns-in-Some-node_at c = λ os e.
+    ap Some c.as_parent.ensures ∙ second_given os c.args.stack.now _ c.in-Some.at e (omega (arith, c.in-Some.ensures)) c.in-Some-node_at.ensures
