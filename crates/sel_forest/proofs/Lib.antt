@@ -9,3 +9,5 @@ pub mod Digits
 pub mod PutDown
 pub mod Reading
 pub mod Stepping
+pub mod Lawful
+pub mod Standing

@@ -279,3 +279,46 @@ tree_ends g a os ts w parents deep =
       on = λ open_still. absurd (open_still refl);
       ends = λ _. inr (w.o, w.os_are ∙ ap (λ r. w.o ∷ r) none, subst (λ us. SpellsTree g us (whole w.o)) (sym mine) w.spells, w.over, omega arith);
     }
+
+wrong_none : (g : Grammar) (a : Around) (t : Token) → (if has_wrong_arity g a t then Some limits.arity else None) ≡ None → has_wrong_arity g a t ≡ false
+wrong_none g a t h = right (has_wrong_arity g a t) limits.arity h
+
+-- A token behind a tree, which a name and its attribute are where their operator wants no kids.
+behind_moves : (g : Grammar) → HasPairsAtMost g → (trees : ℕ) (a : Around) (os : List Opened) (ts : List Token) → (wants_some g a.bare ≡ false → Whole g os ts)
+    → a.parents ≡ map parent_of (behind_first os) → a.names ≡ total os → a.names ≤ most_nodes → (d : ℕ) (t : Token) → length a.parents ≡ d → kind_of g trees a t ≡ None → MovesTo g a os ts t (after_tree d t)
+behind_moves g two trees a os ts w parents names few (suc d) Comma deep k =
+    let h = wrong_none g a Comma k in
+    comma_moves g two d a os ts (w (left_false (wants_some g a.bare) (takes_no_further g a.parents) h)) parents deep names few (right_false (wants_some g a.bare) (takes_no_further g a.parents) h)
+behind_moves g two trees a os ts w parents names few (suc d) Close deep k =
+    let h = wrong_none g a Close k in
+    close_moves g two d a os ts (w (left_false (wants_some g a.bare) (wants_another g a.parents) h)) parents deep names few (right_false (wants_some g a.bare) (wants_another g a.parents) h)
+behind_moves g two trees a os ts w parents names few zero End deep k = tree_ends g a os ts (w (wrong_none g a End k)) parents deep
+behind_moves g two trees a os ts w parents names few _ _ deep k = tt
+
+pub moves : (g : Grammar) → HasPairsAtMost g → (trees : ℕ) (a : Around) (os : List Opened) (ts : List Token) (s : State) (t : Token) → Fits g s a os ts → IsLawful t → kind_of g trees a t ≡ None → MovesTo g a os ts t (step s t)
+moves g two trees a os ts Start (Name n) f l k = name_moves g trees 0 a os ts n (subst (λ o. ParentTexts g o ts) (sym f.reads.0) f.reads.1) f.parents f.deep f.names k
+moves g two trees a os ts Start End f l k = record { takes = tt; on = λ h. absurd (h refl); ends = λ _. inl f.reads }
+moves g two trees a os ts (Wanted d) (Name n) f l k = name_moves g trees d a os ts n f.reads f.parents f.deep f.names k
+moves g two trees a os ts (Named d) Colon f l k = colon_moves g d a os ts f
+moves g two trees a os ts (Named d) Open f l k =
+    open_moves g d a os ts [] attribute.Absent no_attribute tt f.reads f.bare f.parents f.deep f.names f.few (wrong_none g a Open k)
+moves g two trees a os ts (Named d) t f l k =
+    behind_moves g two trees a os ts (λ w. whole_of_bare g a os ts [] attribute.Absent no_attribute tt f.reads f.bare w) f.parents f.names f.few d t f.deep k
+moves g two trees a os ts (Colonned d) (Number bytes) f l k =
+    let small : is_too_large bytes ≡ false = right (is_too_large bytes) limits.number_large k in
+    record {
+      takes = (small, some_bare g os ts (Colon ∷ []) attribute.Absent f.reads);
+      on = λ _. marked_fits g d a os ts (Number bytes) (attribute.Number (value_of bytes)) (a_number bytes) (value_fits bytes small) f;
+      ends = λ e. absurd cc;
+    }
+moves g two trees a os ts (Colonned d) (Symbol bytes) f l k = record {
+  takes = some_bare g os ts (Colon ∷ []) attribute.Absent f.reads;
+  on = λ _. marked_fits g d a os ts (Symbol bytes) (attribute.Symbol bytes) (a_symbol bytes) l f;
+  ends = λ e. absurd cc;
+}
+moves g two trees a os ts (Attributed d) Open f l k =
+    open_moves g d a os ts f.reads.0 f.reads.1 f.reads.2 f.reads.3 f.reads.4 f.bare f.parents f.deep f.names f.few (wrong_none g a Open k)
+moves g two trees a os ts (Attributed d) t f l k =
+    behind_moves g two trees a os ts (λ w. whole_of_bare g a os ts f.reads.0 f.reads.1 f.reads.2 f.reads.3 f.reads.4 f.bare w) f.parents f.names f.few d t f.deep k
+moves g two trees a os ts (Closed d) t f l k = behind_moves g two trees a os ts (λ _. f.reads) f.parents f.names f.few d t f.deep k
+moves g two trees a os ts _ _ f l k = tt
