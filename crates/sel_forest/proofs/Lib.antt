@@ -11,3 +11,4 @@ pub mod Reading
 pub mod Stepping
 pub mod Lawful
 pub mod Standing
+pub mod LineLoop

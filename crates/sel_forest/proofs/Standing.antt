@@ -1,5 +1,5 @@
 -- Where the reader stands on a line: no token so far has a fault.
-use Rattle.std.proofs.Common.{◌≡◌, ℕ, suc, zero, ◌+◌, ◌-◌, ◌≤◌, ◌<◌, ◌⊎◌, inl, inr, Bool, true, false, List, [], ◌∷◌, ◌++◌, Option, Some, None, refl, ap, sym, ◌∙◌, subst, arith, length, drop, length-append, append-nil}
+use Rattle.std.proofs.Common.{◌≡◌, ℕ, suc, zero, ◌+◌, ◌-◌, ◌≤◌, ◌<◌, ◌==◌, ◌&&◌, nat_le, ◌⊎◌, inl, inr, Bool, true, false, List, [], ◌∷◌, ◌++◌, Option, Some, None, refl, ap, sym, ◌∙◌, subst, arith, length, drop, length-append, append-nil}
 use Rattle.std.specs.Str.Parse.{AllDigits}
 use Rattle.std.specs.List.{prefix_len}
 use Rattle.std.specs.Char.{is_ascii_digit}
@@ -7,9 +7,9 @@ use Rattle.sel_grammar.specs.declared.grammar.Grammar.{Grammar}
 use Rattle.sel_grammar.specs.PlainTrees.{PlainTree, size}
 use Rattle.sel_forest.specs.declared.forest.Tree.{Tree}
 use Rattle.sel_forest.specs.Limits as limits
-use Rattle.sel_forest.specs.Limits.{most_nodes}
+use Rattle.sel_forest.specs.Limits.{most_nodes, most_trees}
 use Rattle.sel_forest.specs.Postorder.{postorder}
-use Rattle.sel_forest.specs.Tokens.{Token, Name, Number, Symbol, Colon, Open, Comma, Close, Bad, End, token_of, token_at, skip, width, is_colon, start, behind, first, after, place, IsCutInto}
+use Rattle.sel_forest.specs.Tokens.{Token, Name, Number, Symbol, Colon, Open, Comma, Close, Bad, End, token_of, token_at, skip, width, is_colon, Spot, start, behind, first, after, place, IsCutInto}
 use Rattle.sel_forest.specs.Form.{IsLine, GoesOn}
 use Rattle.sel_forest.specs.LineFaults.{Around, around_next, around_from, around, kind_of, HasFault, stray, wrong, HasFirstFault}
 use Rattle.sel_forest.specs.ForestText.{SpellsLine, IsBlankLine}
@@ -21,8 +21,9 @@ use Rattle.sel_forest.specs.declared.line.State.TheVariants.{Start, Wanted, Name
 use Rattle.sel_forest.proofs.Viable.{run-append, complete, goes_on, stops}
 use Rattle.sel_forest.proofs.Strides.{first-snoc, after-snoc, step_depth, step_flag, step_end, shorter, skip_short}
 use Rattle.sel_forest.proofs.Lawful.{lawful}
-use Rattle.sel_forest.proofs.Reading.{HasPairsAtMost, Reads, total, Fits}
-use Rattle.sel_forest.proofs.Stepping.{Ending, Moves, MovesTo, moves}
+use Rattle.sel_forest.proofs.Roots.{size_some}
+use Rattle.sel_forest.proofs.Reading.{HasPairsAtMost, Reads, total, Fits, not_le}
+use Rattle.sel_forest.proofs.Stepping.{Ending, Moves, MovesTo, moves, name_right}
 
 abbrev pub opened_from : Grammar → List Opened → List Token → List Opened
 opened_from g os [] = os
@@ -47,7 +48,28 @@ pub record Stands (g : Grammar) (trees : ℕ) (line : List ℕ) (n : ℕ) (s : S
   pub room : open_count s + length rest ≤ length line
   pub open_still : s ≡ Ended → ⊥
   pub free : (k kind : ℕ) → k < n → HasFault g trees line k kind → ⊥
+  pub few : 0 < (around g (first n (start line))).names → trees < most_trees
   pub fits : Fits g s (around g (first n (start line))) (opened g (first n (start line))) (first n (start line))
+
+-- a name that is right is the first of its line only where another tree may stand
+first_free : (b : Bool) (n : ℕ) → n ≡ 0 → (b && (n == 0)) ≡ false → b ≡ false
+first_free false n e h = refl
+first_free true n e h = let k : (n == 0) ≡ true = ap (λ m. m == 0) e in cc
+
+few_next : (g : Grammar) (trees : ℕ) (a : Around) (t : Token) → (0 < a.names → trees < most_trees) → kind_of g trees a t ≡ None → 0 < (around_next g a t).names → trees < most_trees
+few_next g trees a (Name n) few k some = go (a.names) refl
+  where
+    go : (m : ℕ) → a.names ≡ m → trees < most_trees
+    go zero e = not_le most_trees trees (first_free (nat_le most_trees trees) a.names e (name_right g trees a n k).few_trees)
+    go (suc m) e = few (omega arith)
+few_next g trees a (Number bytes) few k some = few some
+few_next g trees a (Symbol bytes) few k some = few some
+few_next g trees a Colon few k some = few some
+few_next g trees a Open few k some = few some
+few_next g trees a Comma few k some = few some
+few_next g trees a Close few k some = few some
+few_next g trees a (Bad b) few k some = few some
+few_next g trees a End few k some = few some
 
 pub stands_start : (g : Grammar) (trees : ℕ) (line : List ℕ) → Stands g trees line 0 Start line
 stands_start g trees line = record {
@@ -56,6 +78,7 @@ stands_start g trees line = record {
   room = omega arith;
   open_still = λ e. cc;
   free = λ k kind h f. absurd (omega arith);
+  few = λ some. absurd (omega arith);
   fits = record { reads = (refl, refl); bare = refl; parents = refl; deep = refl; names = refl; few = omega arith };
 }
 
@@ -141,8 +164,66 @@ module _ (g : Grammar) (two : HasPairsAtMost g) (trees : ℕ) (line : List ℕ) 
     room = omega (arith, r.room, step_depth s (token_here s rest) u h, shorter s u (skip rest) h open_still, skip_short rest);
     open_still = open_still;
     free = λ j kind lt f. elim (below_suc j lt) [ inl l ↦ r.free j kind l f | inr e ↦ no_fault_here u kind h k (subst (λ i. HasFault g trees line i kind) e f) ];
+    few = λ some. few_next g trees (around g (first n (start line))) (token_here s rest) r.few k (subst (λ a. 0 < a.names) around_more some);
     fits = subst (λ o. Fits g u (around g (first (suc n) (start line))) o (first (suc n) (start line))) (sym opened_more)
         (subst (λ a. Fits g u a (opened_next g (opened g (first n (start line))) (token_here s rest)) (first (suc n) (start line))) (sym around_more)
         (subst (λ us. Fits g u (around_next g (around g (first n (start line))) (token_here s rest)) (opened_next g (opened g (first n (start line))) (token_here s rest)) us) (sym one_more)
         ((moved u h k).on open_still)));
   }
+
+-- Where the line ends.
+
+length-first : (n : ℕ) (line : List ℕ) → length (first n (start line)) ≡ n
+length-first n line = counts n (start line)
+  where
+    counts : (n : ℕ) (p : Spot) → length (first n p) ≡ n
+    counts zero p = refl
+    counts (suc n) p = ap suc (counts n (behind p))
+
+after_ended : (d : ℕ) (t : Token) → after_tree d t ≡ Some Ended → t ≡ End
+after_ended (suc d) Comma h = cc
+after_ended (suc d) Close h = cc
+after_ended zero End h = refl
+after_ended _ _ h = cc
+
+step_ended : (s : State) (t : Token) → step s t ≡ Some Ended → t ≡ End
+step_ended Start (Name n) h = cc
+step_ended Start End h = refl
+step_ended (Wanted d) (Name n) h = cc
+step_ended (Named d) Colon h = cc
+step_ended (Named d) Open h = cc
+step_ended (Named d) t h = after_ended d t h
+step_ended (Colonned d) (Number n) h = cc
+step_ended (Colonned d) (Symbol n) h = cc
+step_ended (Attributed d) Open h = cc
+step_ended (Attributed d) t h = after_ended d t h
+step_ended (Closed d) t h = after_ended d t h
+step_ended _ _ h = cc
+
+-- the line is blank and nothing is open, or the root alone is open and its tree is the line's
+abbrev pub LineEnds : Grammar → ℕ → List ℕ → List Opened → Type 0
+LineEnds g trees line os =
+    ((os ≡ []) × IsBlankLine line)
+    ⊎ ((root : Opened) × (os ≡ root ∷ []) × ((tree : Tree) → tree.nodes ≡ postorder 0 (whole root) → SpellsLine g line tree) × (trees < most_trees))
+
+pub stands_end : (g : Grammar) (two : HasPairsAtMost g) (trees : ℕ) (line : List ℕ) (n : ℕ) (s : State) (rest : List ℕ) (r : Stands g trees line n s rest)
+    → step s (token_here s rest) ≡ Some Ended → kind_of g trees (around g (first n (start line))) (token_here s rest) ≡ None → LineEnds g trees line (opened g (first n (start line)))
+stands_end g two trees line n s rest r h k =
+    let ts = first n (start line) in
+    let f : Fits g s (around g ts) (opened g ts) ts = r.fits in
+    let last : first (suc n) (start line) ≡ ts ++ (End ∷ []) = one_more g two trees line n s rest r ∙ ap (λ t. ts ++ (t ∷ [])) (step_ended s (token_here s rest) h) in
+    let cut : IsCutInto line ts = ap (λ m. first (suc m) (start line)) (length-first n line) ∙ last in
+    elim ((moved g two trees line n s rest r Ended h k).ends refl) [
+      | inl e ↦ inl (e.0, subst (IsCutInto line) e.1 cut)
+      | inr e ↦ inr (
+          e.0,
+          e.1,
+          λ tree p. record {
+            tokens = ts;
+            cut = cut;
+            valid = record { plain = whole e.0; postorder = p; over = e.3; small = let q : total (opened g ts) ≡ size (whole e.0) + 0 = ap total e.1 in omega (arith, f.few, f.names, q); shallow = e.4 };
+            spells = e.2;
+          },
+          let q : total (opened g ts) ≡ size (whole e.0) + 0 = ap total e.1 in r.few (omega (arith, f.names, q, size_some (whole e.0))),
+        )
+    ]

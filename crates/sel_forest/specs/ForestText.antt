@@ -1,5 +1,5 @@
 -- Which forest a text spells under a grammar, and the first fault of a text that spells none.
-use Rattle.std.specs.Prelude.{◌≡◌, ℕ, ◌+◌, ◌≤◌, ◌==◌, List, [], ◌∷◌, ◌++◌, length}
+use Rattle.std.specs.Prelude.{◌≡◌, ℕ, ◌+◌, ◌≤◌, ◌==◌, List, [], ◌∷◌, ◌++◌, length, Option, Some, None}
 use Rattle.std.specs.List.{slice_split}
 use Rattle.sel_grammar.specs.declared.grammar.Grammar.{Grammar}
 use Rattle.sel_forest.specs.declared.forest.Tree.{Tree}
@@ -24,6 +24,23 @@ pub record SpellsLine (g : Grammar) (line : List ℕ) (tree : Tree) : Type 0 whe
 abbrev pub IsBlankLine : List ℕ → Type 0
 IsBlankLine line = IsCutInto line []
 
+-- what is read of a line
+abbrev pub IsLineResult : Grammar → List ℕ → Option Tree → Type 0
+IsLineResult g line None = IsBlankLine line
+IsLineResult g line (Some tree) = SpellsLine g line tree
+
+-- The first fault of the line with that number, behind that many trees. Columns count from 1.
+pub record IsLineFault (g : Grammar) (trees : ℕ) (line : List ℕ) (number : ℕ) (fault : ForestFault) : Type 0 where
+  pub at : ℕ
+  pub first_fault : HasFirstFault g trees line fault.kind at
+  pub line_is : fault.line ≡ number
+  pub column_is : fault.column ≡ at + 1
+
+-- a fault is the line's first one, and want of memory comes freely
+abbrev pub IsLineRefusal : Grammar → ℕ → List ℕ → ℕ → ForestRefusal → Type 0
+IsLineRefusal g trees line number (refusal.Fault fault) = IsLineFault g trees line number fault
+IsLineRefusal g trees line number refusal.NoMemory = Unit {0}
+
 -- each line spells a tree, in their order, or is blank
 pub data SpellLines (g : Grammar) : List (List ℕ) → List Tree → Type 0 where
   no_lines : SpellLines g [] []
@@ -38,7 +55,7 @@ pub record SpellsForest (g : Grammar) (bytes : List ℕ) (forest : Forest) : Typ
   pub lines : SpellLines g (lines_of bytes) forest.trees
   pub few : length forest.trees ≤ most_trees
 
--- The first fault of a text: the lines before its line spell trees or are blank. Line and column count from 1.
+-- The first fault of a text: the lines before its line, which are numbered from 1, spell trees or are blank.
 pub record IsForestFault (g : Grammar) (bytes : List ℕ) (fault : ForestFault) : Type 0 where
   pub before : List (List ℕ)
   pub line : List ℕ
@@ -47,10 +64,7 @@ pub record IsForestFault (g : Grammar) (bytes : List ℕ) (fault : ForestFault) 
   pub trees : List Tree
   pub spelled : SpellLines g before trees
   pub few : length trees ≤ most_trees
-  pub at : ℕ
-  pub first_fault : HasFirstFault g (length trees) line fault.kind at
-  pub line_is : fault.line ≡ length before + 1
-  pub column_is : fault.column ≡ at + 1
+  pub here : IsLineFault g (length trees) line (length before + 1) fault
 
 -- a fault is the text's first one, and want of memory comes freely
 abbrev pub IsForestRefusal : Grammar → List ℕ → ForestRefusal → Type 0

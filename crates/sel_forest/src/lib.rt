@@ -8,6 +8,7 @@ pub mod laws;
 pub mod limits;
 mod line;
 mod number;
+mod read;
 mod refusal;
 mod tokens;
 mod walk;
