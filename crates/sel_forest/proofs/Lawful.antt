@@ -22,10 +22,10 @@ mark_lawful b =
 take_suc : (n b : ℕ) (bytes : List ℕ) → take (1 + n) (b ∷ bytes) ≡ b ∷ take n bytes
 take_suc n b bytes = let e : 1 + n ≡ suc n = omega arith in rw e refl
 
-front_yes : (p : ℕ → Bool) (b : ℕ) (bytes : List ℕ) → p b ≡ true → take (prefix_len p (b ∷ bytes)) (b ∷ bytes) ≡ b ∷ take (prefix_len p bytes) bytes
+pub front_yes : (p : ℕ → Bool) (b : ℕ) (bytes : List ℕ) → p b ≡ true → take (prefix_len p (b ∷ bytes)) (b ∷ bytes) ≡ b ∷ take (prefix_len p bytes) bytes
 front_yes p b bytes h = rw h (take_suc (prefix_len p bytes) b bytes)
 
-front_no : (p : ℕ → Bool) (b : ℕ) (bytes : List ℕ) → p b ≡ false → take (prefix_len p (b ∷ bytes)) (b ∷ bytes) ≡ []
+pub front_no : (p : ℕ → Bool) (b : ℕ) (bytes : List ℕ) → p b ≡ false → take (prefix_len p (b ∷ bytes)) (b ∷ bytes) ≡ []
 front_no p b bytes h = rw h refl
 
 -- the bytes at the front that pass a test

@@ -12,3 +12,4 @@ pub mod Stepping
 pub mod Lawful
 pub mod Standing
 pub mod LineLoop
+pub mod ForestLoop

@@ -14,6 +14,7 @@ mod tokens;
 mod walk;
 
 pub use forest::{Cover, Forest, Node, Tree};
+pub use read::read_forest;
 pub use refusal::{ForestFault, ForestRefusal};
 pub use sel_grammar::Attribute;
 pub use walk::{Goal, fits_at, node_at, push_goals, rule_of};

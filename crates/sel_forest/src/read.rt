@@ -1,9 +1,11 @@
 //! Forests read from text.
 
-ghost use Rattle.std.specs.Prelude.{◌≡◌, ℕ, List, [], ◌∷◌, ◌++◌, ◌<◌, ◌≤◌, ◌+◌, ◌-◌, ◌^◌, length, None, Some, IfOk, IfErr, OnOk, IfSome, OnSome};
+ghost use Rattle.std.specs.Prelude.{◌≡◌, ℕ, List, [], ◌∷◌, ◌++◌, ◌<◌, ◌≤◌, ◌+◌, ◌-◌, ◌^◌, length, None, Some, IfOk, IfErr, OnOk, IfSome, OnSome, not, ◌==◌, option_to_list, drop};
+ghost use Rattle.std.specs.List.{prefix_len};
 ghost use Rattle.sel_grammar.specs.Limits.{IsWithinLimits};
 ghost use Rattle.sel_forest.specs.ForestText.{lines_of, SpellsForest, IsForestRefusal, IsLineResult, IsLineRefusal};
 ghost use Rattle.sel_forest.specs.Limits.{most_trees};
+ghost use Rattle.sel_forest.specs.Pieces.{lines_behind};
 ghost use Rattle.sel_forest.specs.Valid.{IsValidForest};
 
 use crate::build::{finish, take};
@@ -13,9 +15,50 @@ use crate::limits::{MOST_NODES, TOKEN};
 use crate::line::{State, step, wants_attribute};
 use crate::refusal::{ForestFault, ForestRefusal};
 use crate::tokens::next_token;
-use sel_base::NoMemory;
+use sel_base::{List, NoMemory};
 use sel_grammar::Grammar;
 use std::alloc::Global;
+
+/// A line, and what stands behind its line feed, if it has one.
+#[derive(Clone, Copy, Debug)]
+struct Cut<'a> {
+    line: &'a [u8],
+    rest: Option<&'a [u8]>,
+}
+
+fn line_len(bytes: &[u8]) -> usize
+    ensures len { result ≡ prefix_len (λ b. not (b == 10)) bytes.now }
+    ensures fits { result ≤ length bytes.now }
+{
+    bytes.iter().take_while(|b| **b != b'\n').count()
+}
+
+fn behind(bytes: &[u8], count: usize) -> &[u8]
+    requires { count ≤ length bytes.now }
+    ensures { result.now ≡ drop count bytes.now }
+{
+    &bytes[count..]
+}
+
+/// The first line of a text.
+#[tactic(auto, using(crate::proofs::ForestLoop::last_cut, crate::proofs::ForestLoop::first_cut))]
+fn first_line(bytes: &[u8]) -> Cut<'_>
+    ensures lines { lines_of bytes.now ≡ result.line.now ∷ lines_behind result.rest }
+    ensures inside { length result.line.now ≤ length bytes.now }
+    ensures shorter { IfSome result.rest (λ rest. length rest.now < length bytes.now) }
+{
+    let len = line_len(bytes);
+    if len < bytes.len() {
+        return Cut {
+            line: &bytes[..len],
+            rest: Some(behind(bytes, len + 1)),
+        };
+    }
+    Cut {
+        line: &bytes[..len],
+        rest: None,
+    }
+}
 
 fn fault(kind: u8, number: u32, line: &[u8], from: &[u8]) -> ForestRefusal
     requires within { length from.now ≤ length line.now }
@@ -74,5 +117,43 @@ fn read_line(
         take(alloc, grammar, stack, &mut nodes, &found.piece)?;
         state = next;
         rest = found.behind;
+    }
+}
+
+fn add(trees: &mut List<Tree>, tree: Option<Tree>) -> Result<(), NoMemory>
+    ensures { OnOk result (trees.new ≡ trees.old ++ option_to_list tree) }
+{
+    if let Some(tree) = tree {
+        trees.push(tree)?;
+    }
+    Ok(())
+}
+
+/// The forest that the text spells under the grammar: each line has one tree, as a name, a `:` and an
+/// attribute, and the kids between parentheses, with commas between them; or it is blank. Blanks may
+/// stand between tokens, and the last line may lack its line feed.
+///
+/// A fault is the first of the text, by its place and then by the order of the kinds in `limits` but
+/// for too many trees, a depth and too many nodes, which come before unknown operators.
+pub fn read_forest(alloc: Global, grammar: &Grammar, bytes: &[u8]) -> Result<Forest, ForestRefusal>
+    requires within { IsWithinLimits grammar.now }
+    requires short { length bytes.now < 4294967295 }
+    ensures ok { IfOk result (λ forest. SpellsForest grammar.now bytes.now forest) }
+    ensures valid { IfOk result (λ forest. IsValidForest grammar.now forest) }
+    ensures fault { IfErr result (λ refusal. IsForestRefusal grammar.now bytes.now refusal) }
+{
+    let mut trees = List::new(alloc);
+    let mut stack = Vec::new(alloc);
+    let mut number = 1;
+    let mut rest = bytes;
+    'lines: loop {
+        let cut = first_line(rest);
+        let tree = read_line(alloc, grammar, trees.len(), number, cut.line, &mut stack)?;
+        add(&mut trees, tree)?;
+        let Some(behind) = cut.rest else {
+            return Ok(Forest { trees });
+        };
+        rest = behind;
+        number += 1;
     }
 }
