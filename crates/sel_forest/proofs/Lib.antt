@@ -13,3 +13,4 @@ pub mod Lawful
 pub mod Standing
 pub mod LineLoop
 pub mod ForestLoop
+pub mod OneForest
