@@ -54,12 +54,12 @@ first_cut (b ∷ bytes) h = go (b == 10) refl (first_cut bytes)
         ∙ ap (λ x. take (prefix_len inside (b ∷ bytes)) (b ∷ bytes) ∷ lines_of x) (sym (drop_more (prefix_len inside bytes) b bytes) ∙ ap (λ n. drop (n + 1) (b ∷ bytes)) (sym (prefix_yes b bytes (ap not e))))
 
 -- One line more.
-more_blank : (g : Grammar) (before : List (List ℕ)) (line : List ℕ) (trees : List Tree) → SpellLines g before trees → IsBlankLine line → SpellLines g (before ++ (line ∷ [])) trees
+pub more_blank : (g : Grammar) (before : List (List ℕ)) (line : List ℕ) (trees : List Tree) → SpellLines g before trees → IsBlankLine line → SpellLines g (before ++ (line ∷ [])) trees
 more_blank g _ line _ no_lines h = blank_line line [] [] h no_lines
 more_blank g _ line trees (blank_line first lines _ e rest) h = blank_line first (lines ++ (line ∷ [])) trees e (more_blank g lines line trees rest h)
 more_blank g _ line _ (tree_line first lines tree trees e rest) h = tree_line first (lines ++ (line ∷ [])) tree trees e (more_blank g lines line trees rest h)
 
-more_tree : (g : Grammar) (before : List (List ℕ)) (line : List ℕ) (trees : List Tree) (tree : Tree) → SpellLines g before trees → SpellsLine g line tree → SpellLines g (before ++ (line ∷ [])) (trees ++ (tree ∷ []))
+pub more_tree : (g : Grammar) (before : List (List ℕ)) (line : List ℕ) (trees : List Tree) (tree : Tree) → SpellLines g before trees → SpellsLine g line tree → SpellLines g (before ++ (line ∷ [])) (trees ++ (tree ∷ []))
 more_tree g _ line _ tree no_lines h = tree_line line [] tree [] h no_lines
 more_tree g _ line trees tree (blank_line first lines _ e rest) h = blank_line first (lines ++ (line ∷ [])) (trees ++ (tree ∷ [])) e (more_tree g lines line trees tree rest h)
 more_tree g _ line _ tree (tree_line first lines other trees e rest) h = tree_line first (lines ++ (line ∷ [])) other (trees ++ (tree ∷ [])) e (more_tree g lines line trees tree rest h)

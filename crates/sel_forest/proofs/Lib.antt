@@ -14,3 +14,6 @@ pub mod Standing
 pub mod LineLoop
 pub mod ForestLoop
 pub mod OneForest
+pub mod Faultless
+pub mod OneFault
+pub mod SomeAnswer

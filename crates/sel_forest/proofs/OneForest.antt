@@ -110,7 +110,7 @@ opens_tree g _ _ (two_kids n a xs ts us t u s h h') os k =
     two_kids_glue xs ts us k = simp append_assoc refl
 
 -- A line is whole at one number of tokens.
-beyond : (j k : ℕ) (p : Spot) (s : State) → run (first j p) s ≡ Some Ended → j < k → run (first k p) s ≡ None
+pub beyond : (j k : ℕ) (p : Spot) (s : State) → run (first j p) s ≡ Some Ended → j < k → run (first k p) s ≡ None
 beyond j zero p s h lt = absurd (omega arith)
 beyond zero (suc k) p s h lt = let e : s ≡ Ended = cc in ap (run (first (suc k) p)) e
 beyond (suc j) (suc k) p s h lt = go' (step s (token_at p)) h (λ u e. beyond j k (behind p) u e (omega arith))
