@@ -1,23 +1,23 @@
 -- Nothing is wrong with the tokens of a tree within the limits.
-use Rattle.std.proofs.Common.{◌≡◌, ℕ, suc, zero, ◌+◌, ◌-◌, ◌≤◌, ◌<◌, ◌==◌, ◌&&◌, ◌||◌, ◌^◌, ◌⊎◌, inl, inr, nat_le, nat_lt, max, Bool, true, false, List, [], ◌∷◌, ◌++◌, Option, Some, None, refl, ap, sym, ◌∙◌, subst, arith, length, append_assoc, slice_get, unwrap_or, if◌then◌else◌, pos, neg_ℤ}
+use Rattle.std.proofs.Common.{◌≡◌, ℕ, suc, zero, ◌+◌, ◌≤◌, ◌<◌, ◌==◌, ◌&&◌, ◌||◌, ◌^◌, ◌⊎◌, inl, inr, nat_le, nat_lt, Bool, true, false, List, [], ◌∷◌, ◌++◌, Option, Some, None, refl, ap, sym, ◌∙◌, subst, arith, length, append_assoc, slice_get, unwrap_or, if◌then◌else◌, pos, neg_ℤ}
 use Rattle.std.proofs.lemmas.Int.{ints}
 use Rattle.std.specs.Str.Parse.{digits_value}
 use Rattle.sel_grammar.specs.declared.grammar.Attribute.{Attribute}
 use Rattle.sel_grammar.specs.declared.grammar.Attribute.TheVariants as attribute
 use Rattle.sel_grammar.specs.declared.grammar.Grammar.{Grammar}
 use Rattle.sel_grammar.specs.declared.grammar.Operator.{Operator}
-use Rattle.sel_grammar.specs.PlainTrees.{PlainTree, Node0, Node1, Node2, size}
+use Rattle.sel_grammar.specs.PlainTrees.{PlainTree, size}
 use Rattle.sel_forest.specs.declared.forest.Tree.{Tree}
 use Rattle.sel_forest.specs.Limits as limits
 use Rattle.sel_forest.specs.Limits.{most_nodes, most_trees, greatest_depth}
 use Rattle.sel_forest.specs.Valid.{depth, Takes, IsOperatorOf, IsAttribute, IsOver}
-use Rattle.sel_forest.specs.Tokens.{Token, Name, Number, Symbol, Colon, Open, Comma, Close, Bad, End, Spot, start, token_at, behind, first, after, IsCutInto}
-use Rattle.sel_forest.specs.Form.{IsLine, GoesOn, blank}
+use Rattle.sel_forest.specs.Tokens.{Token, Open, Comma, Close, End, Spot, start, token_at, behind, first, after}
+use Rattle.sel_forest.specs.Form.{IsLine, blank}
 use Rattle.sel_forest.specs.TreeText.{number_of, SpellsAttribute, no_attribute, a_number, a_symbol, SpellsTree, no_kids, one_kid, two_kids, value_of, is_negative, without_sign}
 use Rattle.sel_forest.specs.declared.faults.Parent.{Parent}
-use Rattle.sel_forest.specs.LineFaults.{Around, around_next, around_from, around, least_of, most_of, least_kids, most_kids, takes_none, wants_some, takes_no_further, wants_another, has_wrong_arity, is_too_large, name_kind, unknown_kind, kind_of, without_first, with_whole_kid, HasFault, stray, wrong, HasFirstFault}
+use Rattle.sel_forest.specs.LineFaults.{Around, around_next, around_from, least_of, most_of, least_kids, most_kids, wants_some, takes_no_further, wants_another, has_wrong_arity, is_too_large, name_kind, unknown_kind, kind_of, without_first, with_whole_kid, HasFault, stray, wrong, HasFirstFault}
 use Rattle.sel_forest.specs.ForestText.{SpellsLine, IsBlankLine}
-use Rattle.sel_forest.specs.declared.line.State.TheVariants.{Start, Ended}
+use Rattle.sel_forest.specs.declared.line.State.TheVariants.{Start}
 use Rattle.sel_forest.proofs.Viable.{complete, stops}
 use Rattle.sel_forest.proofs.OneForest.{beyond, tree_line_form}
 

@@ -1,18 +1,17 @@
 -- The loop over a text's lines.
-use Rattle.std.proofs.Common.{◌≡◌, ℕ, suc, zero, ◌+◌, ◌-◌, ◌≤◌, ◌<◌, ◌==◌, Bool, true, false, not, List, [], ◌∷◌, ◌++◌, Option, Some, None, refl, ap, sym, ◌∙◌, subst, arith, length, take, drop, length-append, append_assoc, slice_get, cond}
+use Rattle.std.proofs.Common.{◌≡◌, ℕ, suc, zero, ◌+◌, ◌≤◌, ◌<◌, ◌==◌, Bool, true, false, not, List, [], ◌∷◌, ◌++◌, Option, Some, None, refl, ap, sym, ◌∙◌, subst, arith, length, take, drop, length-append, append_assoc, slice_get}
 use Rattle.std.specs.Prelude.{option_to_list}
 use Rattle.std.specs.Option.{OnSome}
-use Rattle.std.specs.List.{prefix_len, slice_split, onto_first}
+use Rattle.std.specs.List.{prefix_len, onto_first}
 use Rattle.std.proofs.lemmas.List.Splits.{slice_split-cons_yes, slice_split-cons_no}
 use Rattle.sel_grammar.specs.declared.grammar.Grammar.{Grammar}
 use Rattle.sel_forest.specs.declared.forest.Tree.{Tree}
 use Rattle.sel_forest.specs.declared.forest.Forest.{Forest}
-use Rattle.sel_forest.specs.declared.refusal.ForestFault.{ForestFault}
 use Rattle.sel_forest.specs.declared.refusal.ForestRefusal.{ForestRefusal}
 use Rattle.sel_forest.specs.declared.refusal.ForestRefusal.TheVariants as refusal
 use Rattle.sel_forest.specs.Limits.{most_trees}
 use Rattle.sel_forest.specs.Valid.{IsValidTree, IsValidForest}
-use Rattle.sel_forest.specs.ForestText.{SpellsLine, IsBlankLine, IsLineResult, IsLineFault, IsLineRefusal, SpellLines, no_lines, blank_line, tree_line, lines_of, SpellsForest, IsForestFault, IsForestRefusal}
+use Rattle.sel_forest.specs.ForestText.{SpellsLine, IsBlankLine, IsLineResult, IsLineFault, IsLineRefusal, SpellLines, no_lines, blank_line, tree_line, lines_of, SpellsForest, IsForestRefusal}
 use Rattle.sel_forest.proofs.Lawful.{front_yes}
 
 -- The first line ends before the first line feed.

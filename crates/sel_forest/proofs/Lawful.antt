@@ -1,12 +1,12 @@
 -- Numbers and symbols are spelled as their kind says.
-use Rattle.std.proofs.Common.{◌≡◌, ℕ, suc, zero, ◌+◌, ◌≤◌, ◌<◌, Bool, true, false, List, [], ◌∷◌, refl, ap, sym, ◌∙◌, subst, arith, length, take, cond, if◌then◌else◌, ◌||◌, ◌&&◌, eqb}
+use Rattle.std.proofs.Common.{◌≡◌, ℕ, suc, ◌+◌, ◌<◌, Bool, true, false, List, [], ◌∷◌, refl, sym, subst, arith, take, cond, if◌then◌else◌, ◌||◌, ◌&&◌, eqb}
 use Rattle.std.specs.List.{prefix_len, list_all}
 use Rattle.std.specs.Char.{is_ascii_digit, digit_value}
 use Rattle.std.specs.Int.{IsInRange}
 use Rattle.std.proofs.lemmas.Str.{digit_value_digit}
 use Rattle.std.specs.Str.Parse.{AllDigits}
-use Rattle.sel_forest.specs.Symbols.{is_symbol_start, is_symbol_byte, is_letter, is_name_byte, IsSymbol}
-use Rattle.sel_forest.specs.Tokens.{Token, Name, Number, Symbol, Colon, Open, Comma, Close, Bad, End, token_of, mark, begins_with_digit}
+use Rattle.sel_forest.specs.Symbols.{is_symbol_start, is_symbol_byte, is_letter, IsSymbol}
+use Rattle.sel_forest.specs.Tokens.{Token, Number, Colon, Open, Comma, Close, Bad, token_of, mark, begins_with_digit}
 use Rattle.sel_forest.specs.TreeText.{without_sign}
 use Rattle.sel_forest.specs.Pieces.{IsLawful}
 

@@ -1,9 +1,8 @@
 -- Tokens, values and faults of small lines, computed.
-use Rattle.std.proofs.Common.{◌≡◌, ℕ, suc, List, [], ◌∷◌, ◌++◌, Option, Some, None, refl, length}
-use Rattle.std.specs.Prelude.{codes, pos, neg_ℤ, ◌^◌}
+use Rattle.std.proofs.Common.{◌≡◌, ℕ, List, [], ◌∷◌, ◌++◌, Option, Some, None, refl}
+use Rattle.std.specs.Prelude.{codes, pos, neg_ℤ}
 use Rattle.sel_grammar.specs.declared.grammar.Grammar.{Grammar}
-use Rattle.sel_grammar.specs.declared.grammar.Operator.{Operator}
-use Rattle.sel_forest.specs.Tokens.{Token, Name, Number, Symbol, Colon, Open, Comma, Close, Bad, End, start, first, after, token_at, place, IsCutInto}
+use Rattle.sel_forest.specs.Tokens.{Name, Number, Symbol, Colon, Open, Comma, Close, Bad, start, first, after, token_at, place, IsCutInto}
 use Rattle.sel_forest.specs.TreeText.{value_of, number_of}
 use Rattle.sel_forest.specs.LineFaults.{kind_of, around}
 use Rattle.sel_forest.specs.ForestText.{lines_of}

@@ -1,19 +1,16 @@
 -- The loop over a line's tokens, in the values that the code's calls give.
-use Rattle.std.proofs.Common.{◌≡◌, ℕ, suc, zero, ◌+◌, ◌-◌, ◌≤◌, ◌<◌, ◌^◌, ◌⊎◌, inl, inr, Bool, true, false, List, [], ◌∷◌, ◌++◌, Option, Some, None, refl, ap, sym, ◌∙◌, subst, arith, length, drop, length-append, map}
+use Rattle.std.proofs.Common.{◌≡◌, ℕ, suc, ◌+◌, ◌-◌, ◌≤◌, ◌<◌, ◌^◌, inl, inr, Bool, List, [], ◌∷◌, ◌++◌, Option, Some, None, refl, ap, sym, ◌∙◌, subst, arith, length, drop, length-append}
 use Rattle.std.specs.Option.{OnSome}
 use Rattle.sel_grammar.specs.declared.grammar.Grammar.{Grammar}
-use Rattle.sel_grammar.specs.Limits.{IsWithinLimits}
-use Rattle.sel_grammar.specs.PlainTrees.{size}
 use Rattle.sel_forest.specs.declared.forest.Node.{Node}
 use Rattle.sel_forest.specs.declared.forest.Tree.{Tree}
 use Rattle.sel_forest.specs.declared.faults.Surroundings.{Surroundings}
 use Rattle.sel_forest.specs.Limits as limits
 use Rattle.sel_forest.specs.Limits.{most_nodes, most_trees}
-use Rattle.sel_forest.specs.Postorder.{postorder}
 use Rattle.sel_forest.specs.Tokens.{Token, token_of, skip, width, start, first}
 use Rattle.sel_forest.specs.LineFaults.{Around, around, kind_of, HasFirstFault}
-use Rattle.sel_forest.specs.ForestText.{SpellsLine, IsBlankLine, IsLineResult}
-use Rattle.sel_forest.specs.OpenNodes.{Opened, whole, kids_nodes, own_node, own_nodes, put_down, opened_next, bare_in, parents_in, first_parent, TakesToken, Holds}
+use Rattle.sel_forest.specs.ForestText.{IsLineResult}
+use Rattle.sel_forest.specs.OpenNodes.{Opened, kids_nodes, own_node, own_nodes, put_down, opened_next, bare_in, parents_in, first_parent, TakesToken, Holds}
 use Rattle.sel_forest.specs.Pieces.{IsLawful}
 use Rattle.sel_forest.specs.Surroundings.{Meets}
 use Rattle.sel_forest.specs.Machine.{step, wants_attribute, open_count}
@@ -22,7 +19,7 @@ use Rattle.sel_forest.specs.declared.line.State.TheVariants.{Start, Ended}
 use Rattle.sel_forest.proofs.Lawful.{lawful}
 use Rattle.sel_forest.proofs.Strides.{skip_short, shorter}
 use Rattle.sel_forest.proofs.PutDown.{kids_length, length-own, root_nodes}
-use Rattle.sel_forest.proofs.Reading.{HasPairsAtMost, total, Fits}
+use Rattle.sel_forest.proofs.Reading.{HasPairsAtMost, total}
 use Rattle.sel_forest.proofs.Standing.{opened, Stands, stands_start, token_here, stands_stray, stands_wrong, stands_takes, stands_next, stands_end, opened_more, LineEnds}
 
 -- The nodes put down and the open ones are all that were named.

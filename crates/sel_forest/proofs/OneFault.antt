@@ -1,14 +1,12 @@
 -- A text has one first fault, or spells a forest.
-use Rattle.std.proofs.Common.{◌≡◌, ℕ, suc, zero, ◌+◌, ◌-◌, ◌≤◌, ◌<◌, ◌⊎◌, inl, inr, List, [], ◌∷◌, ◌++◌, Option, Some, None, refl, ap, sym, ◌∙◌, subst, arith, length, length-append, append_assoc, append-nil}
+use Rattle.std.proofs.Common.{◌≡◌, ℕ, ◌+◌, ◌≤◌, ◌<◌, ◌⊎◌, inl, inr, List, [], ◌∷◌, ◌++◌, Some, refl, ap, sym, ◌∙◌, subst, arith, length}
 use Rattle.sel_grammar.specs.declared.grammar.Grammar.{Grammar}
-use Rattle.sel_grammar.specs.Limits.{IsWithinLimits}
 use Rattle.sel_forest.specs.declared.forest.Tree.{Tree}
-use Rattle.sel_forest.specs.declared.forest.Forest.{Forest}
 use Rattle.sel_forest.specs.declared.refusal.ForestFault.{ForestFault}
 use Rattle.sel_forest.specs.Limits.{most_trees}
 use Rattle.sel_forest.specs.Tokens.{place}
-use Rattle.sel_forest.specs.LineFaults.{kind_of, HasFault, stray, wrong, HasFirstFault}
-use Rattle.sel_forest.specs.ForestText.{SpellsLine, IsBlankLine, IsLineFault, SpellLines, no_lines, blank_line, tree_line, lines_of, SpellsForest, IsForestFault}
+use Rattle.sel_forest.specs.LineFaults.{HasFault, stray, wrong, HasFirstFault}
+use Rattle.sel_forest.specs.ForestText.{SpellLines, no_lines, blank_line, tree_line}
 use Rattle.sel_forest.specs.Laws.{ForestFaultIsOne, ForestOrFault}
 use Rattle.sel_forest.proofs.OneForest.{lines_once, not_blank}
 use Rattle.sel_forest.proofs.Faultless.{tree_faultless, blank_faultless}

@@ -1,20 +1,19 @@
 -- A text spells one forest.
-use Rattle.std.proofs.Common.{◌≡◌, ℕ, suc, zero, ◌+◌, ◌-◌, ◌≤◌, ◌<◌, ◌⊎◌, inl, inr, List, [], ◌∷◌, ◌++◌, Option, Some, None, refl, ap, sym, ◌∙◌, subst, arith, length, length-append, append_assoc, append-nil}
+use Rattle.std.proofs.Common.{◌≡◌, ℕ, suc, zero, ◌<◌, ◌⊎◌, inl, inr, List, [], ◌∷◌, ◌++◌, Option, Some, None, refl, ap, sym, ◌∙◌, subst, arith, length, append_assoc, append-nil}
 use Rattle.sel_grammar.specs.declared.grammar.Attribute.{Attribute}
 use Rattle.sel_grammar.specs.declared.grammar.Attribute.TheVariants as attribute
 use Rattle.sel_grammar.specs.declared.grammar.Grammar.{Grammar}
-use Rattle.sel_grammar.specs.PlainTrees.{PlainTree, Node0, Node1, Node2}
+use Rattle.sel_grammar.specs.PlainTrees.{PlainTree, Node1, Node2}
 use Rattle.sel_forest.specs.declared.forest.Tree.{Tree}
-use Rattle.sel_forest.specs.declared.forest.Forest.{Forest}
 use Rattle.sel_forest.specs.Postorder.{postorder}
-use Rattle.sel_forest.specs.Tokens.{Token, Name, Number, Symbol, Colon, Open, Comma, Close, Bad, End, Spot, start, token_at, behind, first, IsCutInto}
-use Rattle.sel_forest.specs.Form.{Trees, no_trees, tree, below, beside, attribute_tokens, IsAttributeToken, AreTrees, tokens_of, IsLine, blank, one_tree}
+use Rattle.sel_forest.specs.Tokens.{Token, Name, Number, Symbol, Open, Comma, Close, End, Spot, start, token_at, behind, first, IsCutInto}
+use Rattle.sel_forest.specs.Form.{Trees, no_trees, tree, below, attribute_tokens, IsAttributeToken, AreTrees, tokens_of, IsLine, blank, one_tree}
 use Rattle.sel_forest.specs.TreeText.{number_of, SpellsAttribute, no_attribute, a_number, a_symbol, SpellsTree, no_kids, one_kid, two_kids}
-use Rattle.sel_forest.specs.OpenNodes.{Opened, Fresh, Half, Full, whole, opened_next}
+use Rattle.sel_forest.specs.OpenNodes.{Opened, Fresh, Half, Full, whole}
 use Rattle.sel_forest.specs.Machine.{step, run, go}
 use Rattle.sel_forest.specs.declared.line.State.{State}
 use Rattle.sel_forest.specs.declared.line.State.TheVariants.{Start, Ended}
-use Rattle.sel_forest.specs.ForestText.{SpellsLine, IsBlankLine, SpellLines, no_lines, blank_line, tree_line, lines_of, SpellsForest}
+use Rattle.sel_forest.specs.ForestText.{SpellsLine, IsBlankLine, SpellLines, no_lines, blank_line, tree_line, lines_of}
 use Rattle.sel_forest.specs.Laws.{ForestIsOne}
 use Rattle.sel_forest.proofs.Viable.{complete}
 use Rattle.sel_forest.proofs.Standing.{opened_from, opened}

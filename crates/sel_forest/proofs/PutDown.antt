@@ -1,15 +1,15 @@
 -- Ending the innermost open node puts its node down behind its kids' nodes.
-use Rattle.std.proofs.Common.{◌≡◌, ℕ, suc, zero, ◌+◌, ◌-◌, ◌≤◌, ◌<◌, List, [], ◌∷◌, ◌++◌, Option, Some, None, refl, ap, sym, ◌∙◌, subst, arith, length, length-append, append_assoc, append-nil, slice_get, map}
+use Rattle.std.proofs.Common.{◌≡◌, ℕ, ◌+◌, ◌-◌, ◌<◌, List, [], ◌∷◌, ◌++◌, Option, Some, None, refl, ap, sym, ◌∙◌, arith, length, length-append, append_assoc, append-nil, slice_get, map}
 use Rattle.std.specs.Option.{option_map}
 use Rattle.std.proofs.lemmas.List.{length-map}
 use Rattle.sel_grammar.specs.declared.grammar.Attribute.{Attribute}
 use Rattle.sel_grammar.specs.declared.grammar.Attribute.TheVariants as attribute
-use Rattle.sel_grammar.specs.PlainTrees.{PlainTree, Node0, Node1, Node2, size}
+use Rattle.sel_grammar.specs.PlainTrees.{PlainTree, size}
 use Rattle.sel_forest.specs.declared.forest.Node.{Node}
 use Rattle.sel_forest.specs.declared.faults.Parent.{Parent}
 use Rattle.sel_forest.specs.Postorder.{postorder}
-use Rattle.sel_forest.specs.OpenNodes.{Opened, Fresh, Half, Full, operator_of, kid_count, whole, kids_nodes, own_node, put_down, own_nodes, attached, with_kid, closed, with_attribute, IsClosable, Holds, parent_of, behind_first, first_parent, first_operator}
-use Rattle.sel_forest.proofs.Roots.{length-postorder, size_some, slice_get-right, slice_get-left}
+use Rattle.sel_forest.specs.OpenNodes.{Opened, Fresh, Half, Full, kid_count, whole, kids_nodes, own_node, put_down, own_nodes, attached, with_kid, closed, with_attribute, IsClosable, Holds, parent_of, behind_first, first_parent, first_operator}
+use Rattle.sel_forest.proofs.Roots.{length-postorder, slice_get-right, slice_get-left}
 
 -- a whole node's list is its kids' lists and its own node
 pub whole_nodes : (base : ℕ) (o : Opened) → postorder base (whole o) ≡ kids_nodes base o ++ (own_node base o ∷ [])

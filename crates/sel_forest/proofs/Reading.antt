@@ -1,21 +1,18 @@
 -- What the open nodes have to do with the tokens that were read, token by token.
-use Rattle.std.proofs.Common.{◌≡◌, ℕ, suc, zero, ◌+◌, ◌-◌, ◌≤◌, ◌<◌, ◌==◌, ◌||◌, nat_le, nat_lt, max, Bool, true, false, List, [], ◌∷◌, ◌++◌, Option, Some, None, refl, ap, sym, ◌∙◌, subst, arith, length, append_assoc, append-nil, slice_get, unwrap_or, map, if◌then◌else◌}
-use Rattle.std.proofs.lemmas.List.{length-map}
+use Rattle.std.proofs.Common.{◌≡◌, ℕ, ◌+◌, ◌≤◌, ◌<◌, ◌==◌, ◌||◌, nat_le, nat_lt, Bool, true, false, List, [], ◌∷◌, ◌++◌, Option, Some, None, refl, ap, sym, ◌∙◌, subst, arith, length, append_assoc, slice_get, unwrap_or, map, if◌then◌else◌}
 use Rattle.sel_grammar.specs.declared.grammar.Attribute.{Attribute}
 use Rattle.sel_grammar.specs.declared.grammar.Attribute.TheVariants as attribute
 use Rattle.sel_grammar.specs.declared.grammar.Grammar.{Grammar}
 use Rattle.sel_grammar.specs.declared.grammar.Operator.{Operator}
 use Rattle.sel_grammar.specs.Limits.{IsWithinLimits, IsArity}
 use Rattle.sel_grammar.specs.PlainTrees.{PlainTree, Node0, Node1, Node2, size}
-use Rattle.sel_forest.specs.Limits as limits
 use Rattle.sel_forest.specs.Limits.{most_nodes, greatest_depth}
-use Rattle.sel_forest.specs.Valid.{depth, Takes, IsOperatorOf, IsAttribute, IsOver}
-use Rattle.sel_forest.specs.Tokens.{Token, Name, Number, Symbol, Colon, Open, Comma, Close, Bad, End}
-use Rattle.sel_forest.specs.TreeText.{number_of, SpellsAttribute, no_attribute, a_number, a_symbol, SpellsTree, no_kids, one_kid, two_kids, value_of}
-use Rattle.sel_forest.specs.LineFaults.{Around, around_next, least_of, most_of, least_kids, most_kids, takes_none, wants_some, takes_no_further, wants_another, has_wrong_arity, is_too_large, name_kind, unknown_kind, kind_of, with_parent, with_whole_kid, without_first}
-use Rattle.sel_forest.specs.OpenNodes.{Opened, Fresh, Half, Full, operator_of, kid_count, whole, with_kid, closed, with_attribute, opened_next, parent_of, first_operator, behind_first, bare_in, parents_in, IsClosable, TakesToken}
-use Rattle.sel_forest.specs.Pieces.{IsLawful}
-use Rattle.sel_forest.specs.Machine.{after_tree, step, open_count}
+use Rattle.sel_forest.specs.Valid.{depth, Takes, IsAttribute, IsOver}
+use Rattle.sel_forest.specs.Tokens.{Token, Name, Colon, Open, Comma, Close}
+use Rattle.sel_forest.specs.TreeText.{number_of, SpellsAttribute, SpellsTree, no_kids, one_kid, two_kids}
+use Rattle.sel_forest.specs.LineFaults.{Around, least_of, most_of, least_kids, most_kids, takes_none, wants_some, takes_no_further, wants_another}
+use Rattle.sel_forest.specs.OpenNodes.{Opened, Fresh, Half, Full, operator_of, kid_count, whole, closed, parent_of, first_operator, bare_in, parents_in}
+use Rattle.sel_forest.specs.Machine.{open_count}
 use Rattle.sel_forest.specs.declared.line.State.{State}
 use Rattle.sel_forest.specs.declared.line.State.TheVariants.{Start, Wanted, Named, Colonned, Attributed, Closed, Ended}
 

@@ -1,7 +1,6 @@
 -- A text spells a forest or has a fault.
 use Rattle.std.proofs.Common.{◌≡◌, ℕ, suc, zero, ◌+◌, ◌-◌, ◌≤◌, ◌<◌, ◌⊎◌, inl, inr, List, [], ◌∷◌, ◌++◌, Option, Some, None, refl, ap, sym, ◌∙◌, subst, arith, length, drop, length-append, append_assoc, append-nil}
 use Rattle.sel_grammar.specs.declared.grammar.Grammar.{Grammar}
-use Rattle.sel_grammar.specs.Limits.{IsWithinLimits}
 use Rattle.sel_forest.specs.declared.forest.Tree.{Tree}
 use Rattle.sel_forest.specs.declared.forest.Forest.{Forest}
 use Rattle.sel_forest.specs.declared.refusal.ForestFault.{ForestFault}
@@ -10,7 +9,7 @@ use Rattle.sel_forest.specs.Limits.{most_trees}
 use Rattle.sel_forest.specs.Postorder.{postorder}
 use Rattle.sel_forest.specs.Tokens.{skip, width, start, first}
 use Rattle.sel_forest.specs.LineFaults.{around, kind_of, HasFirstFault}
-use Rattle.sel_forest.specs.ForestText.{SpellsLine, IsBlankLine, IsLineFault, SpellLines, no_lines, lines_of, SpellsForest, IsForestFault}
+use Rattle.sel_forest.specs.ForestText.{SpellsLine, IsBlankLine, SpellLines, no_lines, lines_of, SpellsForest, IsForestFault}
 use Rattle.sel_forest.specs.OpenNodes.{Opened, whole}
 use Rattle.sel_forest.specs.Machine.{step}
 use Rattle.sel_forest.specs.declared.line.State.{State}
@@ -78,9 +77,9 @@ answer g two bytes before (line ∷ others) trees e s few =
     go (inl b) next = next trees (more_blank g before line trees s b) few
     go (inr (inl t)) next = next (trees ++ (t.0 ∷ [])) (more_tree g before line trees t.0 s t.1) (omega (arith, length-append trees (t.0 ∷ []), t.2))
     go (inr (inr f)) next = inr (
-        record { kind = f.0; line = length before + 1; column = f.1 + 1 },
-        record { before = before; line = line; others = others; lines = e; trees = trees; spelled = s; few = few; here = record { at = f.1; first_fault = f.2; line_is = refl; column_is = refl } },
-      )
+      record { kind = f.0; line = length before + 1; column = f.1 + 1 },
+      record { before = before; line = line; others = others; lines = e; trees = trees; spelled = s; few = few; here = record { at = f.1; first_fault = f.2; line_is = refl; column_is = refl } },
+    )
 
 pub some_answer : SomeForestOrFault
 some_answer g bytes within = answer g (most_two g within) bytes [] (lines_of bytes) [] refl no_lines (omega arith)

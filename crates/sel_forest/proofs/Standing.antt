@@ -1,29 +1,25 @@
 -- Where the reader stands on a line: no token so far has a fault.
-use Rattle.std.proofs.Common.{◌≡◌, ℕ, suc, zero, ◌+◌, ◌-◌, ◌≤◌, ◌<◌, ◌==◌, ◌&&◌, nat_le, ◌⊎◌, inl, inr, Bool, true, false, List, [], ◌∷◌, ◌++◌, Option, Some, None, refl, ap, sym, ◌∙◌, subst, arith, length, drop, length-append, append-nil}
-use Rattle.std.specs.Str.Parse.{AllDigits}
-use Rattle.std.specs.List.{prefix_len}
-use Rattle.std.specs.Char.{is_ascii_digit}
+use Rattle.std.proofs.Common.{◌≡◌, ℕ, suc, zero, ◌+◌, ◌-◌, ◌≤◌, ◌<◌, ◌==◌, ◌&&◌, nat_le, ◌⊎◌, inl, inr, Bool, true, false, List, [], ◌∷◌, ◌++◌, Option, Some, None, refl, ap, sym, ◌∙◌, subst, arith, length, drop}
 use Rattle.sel_grammar.specs.declared.grammar.Grammar.{Grammar}
-use Rattle.sel_grammar.specs.PlainTrees.{PlainTree, size}
+use Rattle.sel_grammar.specs.PlainTrees.{size}
 use Rattle.sel_forest.specs.declared.forest.Tree.{Tree}
 use Rattle.sel_forest.specs.Limits as limits
 use Rattle.sel_forest.specs.Limits.{most_nodes, most_trees}
 use Rattle.sel_forest.specs.Postorder.{postorder}
-use Rattle.sel_forest.specs.Tokens.{Token, Name, Number, Symbol, Colon, Open, Comma, Close, Bad, End, token_of, token_at, skip, width, is_colon, Spot, start, behind, first, after, place, IsCutInto}
-use Rattle.sel_forest.specs.Form.{IsLine, GoesOn}
+use Rattle.sel_forest.specs.Tokens.{Token, Name, Number, Symbol, Colon, Open, Comma, Close, Bad, End, token_of, token_at, skip, width, Spot, start, behind, first, after, place, IsCutInto}
+use Rattle.sel_forest.specs.Form.{IsLine}
 use Rattle.sel_forest.specs.LineFaults.{Around, around_next, around_from, around, kind_of, HasFault, stray, wrong, HasFirstFault}
 use Rattle.sel_forest.specs.ForestText.{SpellsLine, IsBlankLine}
 use Rattle.sel_forest.specs.OpenNodes.{Opened, whole, opened_next, TakesToken}
-use Rattle.sel_forest.specs.Pieces.{IsLawful}
 use Rattle.sel_forest.specs.Machine.{after_tree, step, run, go, wants_attribute, open_count}
 use Rattle.sel_forest.specs.declared.line.State.{State}
 use Rattle.sel_forest.specs.declared.line.State.TheVariants.{Start, Wanted, Named, Colonned, Attributed, Closed, Ended}
 use Rattle.sel_forest.proofs.Viable.{run-append, complete, goes_on, stops}
-use Rattle.sel_forest.proofs.Strides.{first-snoc, after-snoc, step_depth, step_flag, step_end, shorter, skip_short}
+use Rattle.sel_forest.proofs.Strides.{first-snoc, after-snoc, step_depth, step_flag, shorter, skip_short}
 use Rattle.sel_forest.proofs.Lawful.{lawful}
 use Rattle.sel_forest.proofs.Roots.{size_some}
-use Rattle.sel_forest.proofs.Reading.{HasPairsAtMost, Reads, total, Fits, not_le}
-use Rattle.sel_forest.proofs.Stepping.{Ending, Moves, MovesTo, moves, name_right}
+use Rattle.sel_forest.proofs.Reading.{HasPairsAtMost, total, Fits, not_le}
+use Rattle.sel_forest.proofs.Stepping.{Moves, MovesTo, moves, name_right}
 
 abbrev pub opened_from : Grammar → List Opened → List Token → List Opened
 opened_from g os [] = os
@@ -216,14 +212,14 @@ stands_end g two trees line n s rest r h k =
     elim ((moved g two trees line n s rest r Ended h k).ends refl) [
       | inl e ↦ inl (e.0, subst (IsCutInto line) e.1 cut)
       | inr e ↦ inr (
-          e.0,
-          e.1,
-          λ tree p. record {
-            tokens = ts;
-            cut = cut;
-            valid = record { plain = whole e.0; postorder = p; over = e.3; small = let q : total (opened g ts) ≡ size (whole e.0) + 0 = ap total e.1 in omega (arith, f.few, f.names, q); shallow = e.4 };
-            spells = e.2;
-          },
-          let q : total (opened g ts) ≡ size (whole e.0) + 0 = ap total e.1 in r.few (omega (arith, f.names, q, size_some (whole e.0))),
-        )
+        e.0,
+        e.1,
+        λ tree p. record {
+          tokens = ts;
+          cut = cut;
+          valid = record { plain = whole e.0; postorder = p; over = e.3; small = let q : total (opened g ts) ≡ size (whole e.0) + 0 = ap total e.1 in omega (arith, f.few, f.names, q); shallow = e.4 };
+          spells = e.2;
+        },
+        let q : total (opened g ts) ≡ size (whole e.0) + 0 = ap total e.1 in r.few (omega (arith, f.names, q, size_some (whole e.0))),
+      )
     ]

@@ -1,5 +1,5 @@
 -- A token with which the line goes on, and with which nothing is wrong, keeps what the open nodes have to do with the tokens.
-use Rattle.std.proofs.Common.{◌≡◌, ℕ, suc, zero, ◌+◌, ◌-◌, ◌≤◌, ◌<◌, ◌==◌, ◌&&◌, ◌||◌, ◌^◌, nat_le, nat_lt, max, Bool, true, false, List, [], ◌∷◌, ◌++◌, Option, Some, None, refl, ap, sym, ◌∙◌, subst, arith, length, append_assoc, append-nil, slice_get, map, if◌then◌else◌, ◌⊎◌, inl, inr, ℤ, pos, neg_ℤ}
+use Rattle.std.proofs.Common.{◌≡◌, ℕ, suc, zero, ◌+◌, ◌≤◌, ◌<◌, ◌==◌, ◌&&◌, ◌^◌, nat_le, nat_lt, Bool, true, false, List, [], ◌∷◌, ◌++◌, Option, Some, None, refl, ap, sym, ◌∙◌, subst, arith, length, append_assoc, slice_get, map, if◌then◌else◌, ◌⊎◌, inl, inr, pos, neg_ℤ}
 use Rattle.std.proofs.lemmas.List.{length-map}
 use Rattle.std.proofs.lemmas.Int.{ints}
 use Rattle.std.specs.Str.Parse.{digits_value}
@@ -7,20 +7,19 @@ use Rattle.sel_grammar.specs.declared.grammar.Attribute.{Attribute}
 use Rattle.sel_grammar.specs.declared.grammar.Attribute.TheVariants as attribute
 use Rattle.sel_grammar.specs.declared.grammar.Grammar.{Grammar}
 use Rattle.sel_grammar.specs.declared.grammar.Operator.{Operator}
-use Rattle.sel_grammar.specs.PlainTrees.{PlainTree, Node0, Node1, Node2, size}
 use Rattle.sel_forest.specs.Limits as limits
 use Rattle.sel_forest.specs.Limits.{most_nodes, most_trees, greatest_depth}
 use Rattle.sel_forest.specs.Valid.{depth, IsAttribute, IsOver}
-use Rattle.sel_forest.specs.Tokens.{Token, Name, Number, Symbol, Colon, Open, Comma, Close, Bad, End}
+use Rattle.sel_forest.specs.Tokens.{Token, Name, Number, Symbol, Colon, Open, Comma, Close, End}
 use Rattle.sel_forest.specs.TreeText.{number_of, SpellsAttribute, no_attribute, a_number, a_symbol, SpellsTree, value_of, is_negative, without_sign}
-use Rattle.sel_forest.specs.LineFaults.{Around, around_next, most_kids, takes_none, wants_some, takes_no_further, wants_another, has_wrong_arity, is_too_large, name_kind, unknown_kind, kind_of, with_parent, with_whole_kid, without_first}
+use Rattle.sel_forest.specs.LineFaults.{Around, around_next, wants_some, takes_no_further, wants_another, has_wrong_arity, is_too_large, name_kind, unknown_kind, kind_of, with_parent, with_whole_kid, without_first}
 use Rattle.sel_forest.specs.declared.faults.Parent.{Parent}
-use Rattle.sel_forest.specs.OpenNodes.{Opened, Fresh, Half, Full, operator_of, kid_count, whole, with_kid, closed, with_attribute, opened_next, parent_of, first_operator, behind_first, bare_in, parents_in, IsClosable, TakesToken}
+use Rattle.sel_forest.specs.OpenNodes.{Opened, Fresh, Half, Full, operator_of, whole, closed, with_attribute, opened_next, parent_of, first_operator, behind_first, IsClosable, TakesToken}
 use Rattle.sel_forest.specs.Pieces.{IsLawful}
-use Rattle.sel_forest.specs.Machine.{after_tree, step, open_count}
+use Rattle.sel_forest.specs.Machine.{after_tree, step}
 use Rattle.sel_forest.specs.declared.line.State.{State}
 use Rattle.sel_forest.specs.declared.line.State.TheVariants.{Start, Wanted, Named, Colonned, Attributed, Closed, Ended}
-use Rattle.sel_forest.proofs.Reading.{HasPairsAtMost, not_le, not_lt, not_zero, right, left_false, right_false, ParentText, ParentTexts, Bare, Whole, Reads, total, Fits, whole_of_bare, open_texts, comma_texts, close_texts}
+use Rattle.sel_forest.proofs.Reading.{HasPairsAtMost, not_le, not_lt, right, left_false, right_false, ParentTexts, Bare, Whole, total, Fits, whole_of_bare, open_texts, comma_texts, close_texts}
 
 -- What the checks of a name say.
 pub record NameIsRight (g : Grammar) (trees : ℕ) (a : Around) (n : List ℕ) : Type 0 where

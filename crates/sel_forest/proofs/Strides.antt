@@ -1,14 +1,12 @@
 -- Tokens one by one, and how far they take a line.
-use Rattle.std.proofs.Common.{◌≡◌, ℕ, suc, zero, ◌+◌, ◌-◌, ◌≤◌, ◌<◌, List, [], ◌∷◌, ◌++◌, Option, Some, None, Bool, true, false, length, take, drop, refl, ap, sym, ◌∙◌, subst, arith, length-drop, length-take, cond, ◌||◌, ◌&&◌, eqb}
+use Rattle.std.proofs.Common.{◌≡◌, ℕ, suc, zero, ◌+◌, ◌≤◌, ◌<◌, List, [], ◌∷◌, ◌++◌, Option, Some, None, Bool, true, false, length, take, drop, refl, ap, subst, arith, length-drop, length-take, cond, ◌||◌, ◌&&◌, eqb}
 use Rattle.std.specs.List.{prefix_len}
-use Rattle.sel_forest.specs.Tokens.{Token, Name, Number, Symbol, Colon, Open, Comma, Close, Bad, End, token_of, skip, width, is_colon, mark, begins_with_digit, Spot, start, token_at, behind, first, after, place}
+use Rattle.sel_forest.specs.Tokens.{Token, Name, Number, Symbol, Colon, Open, Comma, Close, Bad, End, token_of, skip, width, is_colon, mark, begins_with_digit, Spot, token_at, behind, first, after}
 use Rattle.sel_forest.specs.Symbols.{is_blank, is_symbol_start, is_symbol_byte, is_name_byte, is_letter}
 use Rattle.std.specs.Char.{is_ascii_digit}
-use Rattle.sel_forest.specs.Form.{IsLine, GoesOn}
-use Rattle.sel_forest.specs.Machine.{step, run, go, wants_attribute, open_count, after_tree}
+use Rattle.sel_forest.specs.Machine.{step, wants_attribute, open_count, after_tree}
 use Rattle.sel_forest.specs.declared.line.State.{State}
 use Rattle.sel_forest.specs.declared.line.State.TheVariants.{Start, Wanted, Named, Colonned, Attributed, Closed, Ended}
-use Rattle.sel_forest.proofs.Viable.{run-append, sound, complete, goes_on, stops}
 
 pub first-snoc : (n : ℕ) (p : Spot) → first (suc n) p ≡ first n p ++ (token_at (after n p) ∷ [])
 first-snoc zero p = refl
@@ -132,4 +130,3 @@ shorter s u (b ∷ bs) h open_still = omega (arith, width_pos (wants_attribute s
 
 pub skip_short : (bs : List ℕ) → length (skip bs) ≤ length bs
 skip_short bs = omega (arith, length-drop (prefix_len is_blank bs) bs)
-

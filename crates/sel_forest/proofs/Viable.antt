@@ -1,5 +1,5 @@
 -- The machine that reads a line's form, and what it decides: whether some line goes on with the tokens so far.
-use Rattle.std.proofs.Common.{◌≡◌, ℕ, suc, zero, ◌+◌, List, [], ◌∷◌, ◌++◌, Option, Some, None, refl, ap, sym, ◌∙◌, append_assoc, IsSome, ◌⊎◌, inl, inr, subst}
+use Rattle.std.proofs.Common.{◌≡◌, ℕ, suc, zero, List, [], ◌∷◌, ◌++◌, Option, Some, None, refl, ap, sym, ◌∙◌, append_assoc, subst}
 use Rattle.sel_forest.specs.Tokens.{Token, Name, Number, Symbol, Colon, Open, Comma, Close, Bad, End}
 use Rattle.sel_forest.specs.Machine.{after_tree, step, go, run}
 use Rattle.sel_forest.specs.declared.line.State.{State}

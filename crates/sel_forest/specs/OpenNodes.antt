@@ -1,12 +1,12 @@
 -- Nodes whose kids are being read, and the lists in postorder that they have put down.
-use Rattle.std.specs.Prelude.{◌≡◌, ℕ, ◌+◌, ◌-◌, ◌==◌, ◌<◌, ◌^◌, Bool, false, List, [], ◌∷◌, ◌++◌, length, Option, Some, None, map, if◌then◌else◌}
+use Rattle.std.specs.Prelude.{◌≡◌, ℕ, ◌+◌, ◌-◌, ◌==◌, ◌<◌, false, List, [], ◌∷◌, ◌++◌, length, Option, Some, None, map, if◌then◌else◌}
 use Rattle.sel_grammar.specs.declared.grammar.Attribute.{Attribute}
 use Rattle.sel_grammar.specs.declared.grammar.Attribute.TheVariants as attribute
 use Rattle.sel_grammar.specs.declared.grammar.Grammar.{Grammar}
 use Rattle.sel_grammar.specs.PlainTrees.{PlainTree, Node0, Node1, Node2, size}
 use Rattle.sel_forest.specs.declared.forest.Node.{Node}
 use Rattle.sel_forest.specs.declared.line.State.{State}
-use Rattle.sel_forest.specs.declared.line.State.TheVariants.{Start, Wanted, Named, Colonned, Attributed, Closed, Ended}
+use Rattle.sel_forest.specs.declared.line.State.TheVariants.{Named, Colonned, Attributed, Closed}
 use Rattle.sel_forest.specs.declared.faults.Parent.{Parent}
 use Rattle.sel_forest.specs.Postorder.{postorder}
 use Rattle.sel_forest.specs.Tokens.{Token, Name, Number, Symbol, Comma, Close}

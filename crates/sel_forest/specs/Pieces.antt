@@ -1,5 +1,5 @@
 -- What the code's tokens and rests of a text stand for.
-use Rattle.std.specs.Prelude.{◌≡◌, ℕ, Bool, true, List, [], ◌∷◌, Option, Some, None}
+use Rattle.std.specs.Prelude.{ℕ, List, [], Option, Some, None}
 use Rattle.std.specs.Str.Parse.{AllDigits}
 use Rattle.std.specs.Borrow.{Bor}
 use Rattle.sel_forest.specs.declared.tokens.Piece.{Piece}

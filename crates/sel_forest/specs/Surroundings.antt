@@ -1,5 +1,5 @@
 -- What the code knows of the place behind some tokens.
-use Rattle.std.specs.Prelude.{◌≡◌, ℕ, length}
+use Rattle.std.specs.Prelude.{◌≡◌, length}
 use Rattle.sel_forest.specs.declared.faults.Surroundings.{Surroundings}
 use Rattle.sel_forest.specs.LineFaults.{Around}
 use Rattle.sel_forest.specs.OpenNodes.{first_parent}

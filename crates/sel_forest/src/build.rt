@@ -52,10 +52,7 @@ fn set_attribute(stack: &mut Vec<Node>, attribute: Attribute) -> Result<(), NoMe
         stack.new.items ≡ below ++ (record { operator = inner.operator; kids = inner.kids; left = inner.left; right = inner.right; attribute = attribute } ∷ [])) }
 {
     if let Some(inner) = stack.pop() {
-        stack.push(Node {
-            attribute,
-            ..inner
-        })?;
+        stack.push(Node { attribute, ..inner })?;
     }
     Ok(())
 }

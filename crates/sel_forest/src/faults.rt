@@ -50,7 +50,10 @@ pub fn number_of(grammar: &Grammar, name: &[u8]) -> usize
     ensures fits { result ≤ length grammar.now.operators }
 {
     let operators = grammar.operators.as_slice();
-    operators.iter().take_while(|operator| !is_named(operator, name)).count()
+    operators
+        .iter()
+        .take_while(|operator| !is_named(operator, name))
+        .count()
 }
 
 fn least_kids(grammar: &Grammar, operator: u8) -> u8
@@ -142,7 +145,12 @@ fn name_kind(grammar: &Grammar, trees: usize, place: Surroundings, name: &[u8]) 
 }
 
 /// The kind of what is wrong with a token with which some line of the form goes on.
-pub fn kind_of(grammar: &Grammar, trees: usize, place: Surroundings, piece: &Piece<'_>) -> Option<u8>
+pub fn kind_of(
+    grammar: &Grammar,
+    trees: usize,
+    place: Surroundings,
+    piece: &Piece<'_>,
+) -> Option<u8>
     requires { IsLawful (view piece.now) }
     ensures { (a : Around) → Meets a place → result ≡ faults.kind_of grammar.now trees a (view piece.now) }
 {

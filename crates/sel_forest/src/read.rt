@@ -129,12 +129,14 @@ fn add(trees: &mut List<Tree>, tree: Option<Tree>) -> Result<(), NoMemory>
     Ok(())
 }
 
-/// The forest that the text spells under the grammar: each line has one tree, as a name, a `:` and an
-/// attribute, and the kids between parentheses, with commas between them; or it is blank. Blanks may
-/// stand between tokens, and the last line may lack its line feed.
+/// The forest that the text spells under the grammar. Each line has one tree, or blanks alone. A tree
+/// is its operator's name, then its attribute, if any, behind a `:`, and then its kids, if any, in
+/// parentheses and with commas between them. Blanks are space, tab, carriage return and form feed, and
+/// may stand between any two tokens. The last line may lack its line feed.
 ///
-/// A fault is the first of the text, by its place and then by the order of the kinds in `limits` but
-/// for too many trees, a depth and too many nodes, which come before unknown operators.
+/// A fault is at the first token that has one, and the line's end is a token. At one token the kinds
+/// come in this order: `TOKEN`, `TOO_MANY_TREES`, `TOO_DEEP`, `TOO_MANY_NODES`, `UNKNOWN_OPERATOR`,
+/// `ARITY`, `NUMBER_LARGE`.
 pub fn read_forest(alloc: Global, grammar: &Grammar, bytes: &[u8]) -> Result<Forest, ForestRefusal>
     requires within { IsWithinLimits grammar.now }
     requires short { length bytes.now < 4294967295 }

@@ -1,9 +1,9 @@
 -- What each kind of token does to the open nodes.
-use Rattle.std.proofs.Common.{◌≡◌, subst, sym, ap, ◌∙◌, ◌<◌, ◌++◌, ◌∷◌, [], length, inl, inr, rules, w64}
+use Rattle.std.proofs.Common.{◌≡◌, subst, sym, ap, ◌∙◌, ◌++◌, ◌∷◌, [], inl, inr, rules, w64}
 use Rattle.std.proofs.lemmas.Int.{to_z-of_z}
 use mir.Val.{SFits, of_z, to_z}
 use Rattle.sel_grammar.specs.declared.grammar.Attribute.TheVariants as attribute
-use Rattle.sel_forest.specs.OpenNodes.{opened_next, Holds, TakesToken, IsClosable, with_attribute}
+use Rattle.sel_forest.specs.OpenNodes.{opened_next, Holds, TakesToken, with_attribute}
 use Rattle.sel_forest.specs.Pieces.{view}
 use Rattle.sel_forest.specs.Tokens as tokens
 use Rattle.sel_forest.proofs.PutDown.{marked, attribute_held, close_held}

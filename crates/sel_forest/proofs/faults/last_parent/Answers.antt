@@ -1,6 +1,5 @@
-use Rattle.std.proofs.Common.{◌≡◌, Some, refl, ap, sym, ◌∙◌, arith}
-use Rattle.std.specs.Option.{option_copied, option_map}
-use Rattle.sel_forest.proofs.PutDown.{last_none, last_given_at, as_parent}
+use Rattle.std.proofs.Common.{Some, ap, sym, ◌∙◌, arith}
+use Rattle.sel_forest.proofs.PutDown.{last_none, last_given_at}
 use Rattle.sel_forest.proofs.faults.last_parent.Goals as goal
 
 pub returns-in_default : goal.returns-in_default

@@ -1,6 +1,5 @@
-use Rattle.std.proofs.Common.{◌≡◌, Some, refl, ap, sym, ◌∙◌, arith}
-use Rattle.std.specs.Option.{option_copied, option_map}
-use Rattle.sel_forest.proofs.PutDown.{second_none, second_given, as_parent}
+use Rattle.std.proofs.Common.{Some, ap, sym, ◌∙◌, arith}
+use Rattle.sel_forest.proofs.PutDown.{second_none, second_given}
 use Rattle.sel_forest.proofs.faults.second_parent.Goals as goal
 
 pub returns-in_default : goal.returns-in_default

@@ -1,4 +1,4 @@
-use Rattle.std.proofs.Common.{◌≡◌, refl, ap, sym, ◌∙◌, ◌-◌, arith, subst, length, inl, inr, map}
+use Rattle.std.proofs.Common.{◌≡◌, sym, ◌∙◌, subst, length, inl, inr}
 use Rattle.sel_forest.specs.OpenNodes.{parents_in}
 use Rattle.sel_forest.proofs.PutDown.{behind_length, all_length}
 use Rattle.sel_forest.proofs.faults.surroundings_of.Goals as goal

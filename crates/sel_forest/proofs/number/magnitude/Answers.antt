@@ -1,4 +1,3 @@
-use Rattle.std.proofs.Common.{◌<◌, ◌≡◌, length, arith}
 use Rattle.sel_forest.proofs.Digits.{value_from}
 use Rattle.sel_forest.proofs.number.magnitude.Goals as goal
 

@@ -1,10 +1,9 @@
 -- The loop over a text's lines.
-use Rattle.std.proofs.Common.{◌≡◌, ℕ, List, ◌∷◌, ◌∙◌, ap, sym, refl, arith, subst, ◌<◌, length, IfSome}
+use Rattle.std.proofs.Common.{◌∷◌, ◌∙◌, ap, subst, ◌<◌, length, IfSome}
 use Rattle.std.specs.Option.{OnSome}
 use Rattle.sel_forest.specs.Limits.{most_trees}
-use Rattle.sel_forest.specs.ForestText.{SpellsForest, lines_of}
 use Rattle.sel_forest.specs.Pieces.{lines_behind}
-use Rattle.sel_forest.proofs.ForestLoop.{LinesRead, read_start, read_next, read_end, read_fault, spelled_valid}
+use Rattle.sel_forest.proofs.ForestLoop.{read_start, read_next, read_end, spelled_valid}
 use Rattle.sel_forest.proofs.read.read_forest.Goals as goal
 
 pub lines-init : goal.lines-init

@@ -1,4 +1,4 @@
-use Rattle.std.proofs.Common.{◌≡◌, ℕ, [], length}
+use Rattle.std.proofs.Common.{◌≡◌, [], length}
 use Rattle.sel_forest.proofs.ForestLoop.{LinesRead}
 use Rattle.sel_forest.proofs.read.read_forest.Given as goal
 

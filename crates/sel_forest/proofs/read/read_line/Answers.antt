@@ -1,10 +1,9 @@
 -- The loop over a line's tokens.
-use Rattle.std.proofs.Common.{◌≡◌, ℕ, ◌+◌, ◌-◌, ◌≤◌, ◌<◌, length, refl, ap, sym, ◌∙◌, subst, arith, Option, Some, None, List, [], ◌∷◌, ◌++◌, inl, inr}
-use Rattle.sel_forest.specs.ForestText.{IsLineResult, IsLineRefusal}
-use Rattle.sel_forest.specs.OpenNodes.{own_nodes}
+use Rattle.std.proofs.Common.{◌-◌, length, refl, ap, sym, ◌∙◌, subst, arith}
+use Rattle.sel_forest.specs.ForestText.{IsLineRefusal}
 use Rattle.sel_forest.specs.Pieces.{view}
 use Rattle.sel_forest.proofs.Reading.{most_two}
-use Rattle.sel_forest.proofs.LineLoop.{Reached, Sees, Judges, reached_small, sees_inside, sees_lawful, sees_stray, sees_wrong, sees_end, sees_next, sees_shorter, end_line, end_short, both_lengths, few_nodes}
+use Rattle.sel_forest.proofs.LineLoop.{Sees, Judges, reached_small, sees_lawful, sees_stray, sees_wrong, sees_end, sees_next, sees_shorter, end_line, end_short, both_lengths, few_nodes}
 use Rattle.sel_forest.proofs.read.read_line.Goals as goal
 
 pub returns-in_default-clause-refusal : goal.returns-in_default-clause-refusal
@@ -65,7 +64,7 @@ returns-in-Ended-clause-line c =
       kind = c.kind_of.ensures;
     } in
     let ended = sees_end c.args.grammar.now c.args.trees c.args.line.now c.tokens.state c.tokens.rest.now c.tokens.stack.items c.tokens.nodes.items c.tokens.invariant _ _ _ _ _ e _ _ j
-        (most_two c.args.grammar.now c.requires.within) c.in-Some.next c.in-Some.is c.in-Ended.is c.in_default-kind_of.is in
+    (most_two c.args.grammar.now c.requires.within) c.in-Some.next c.in-Some.is c.in-Ended.is c.in_default-kind_of.is in
     (end_line c.args.grammar.now c.args.trees c.args.line.now _ c.tokens.stack.items c.tokens.nodes.items c.tokens.invariant.holds ended c.in_ok-tree.tree
     c.in_ok-tree.ensures.blank c.in_ok-tree.ensures.tree).0
 
@@ -82,7 +81,7 @@ returns-in-Ended-clause-few c =
       kind = c.kind_of.ensures;
     } in
     let ended = sees_end c.args.grammar.now c.args.trees c.args.line.now c.tokens.state c.tokens.rest.now c.tokens.stack.items c.tokens.nodes.items c.tokens.invariant _ _ _ _ _ e _ _ j
-        (most_two c.args.grammar.now c.requires.within) c.in-Some.next c.in-Some.is c.in-Ended.is c.in_default-kind_of.is in
+    (most_two c.args.grammar.now c.requires.within) c.in-Some.next c.in-Some.is c.in-Ended.is c.in_default-kind_of.is in
     (end_line c.args.grammar.now c.args.trees c.args.line.now _ c.tokens.stack.items c.tokens.nodes.items c.tokens.invariant.holds ended c.in_ok-tree.tree
     c.in_ok-tree.ensures.blank c.in_ok-tree.ensures.tree).1
 
@@ -99,7 +98,7 @@ returns-in-Ended-clause-emptied c =
       kind = c.kind_of.ensures;
     } in
     let ended = sees_end c.args.grammar.now c.args.trees c.args.line.now c.tokens.state c.tokens.rest.now c.tokens.stack.items c.tokens.nodes.items c.tokens.invariant _ _ _ _ _ e _ _ j
-        (most_two c.args.grammar.now c.requires.within) c.in-Some.next c.in-Some.is c.in-Ended.is c.in_default-kind_of.is in
+    (most_two c.args.grammar.now c.requires.within) c.in-Some.next c.in-Some.is c.in-Ended.is c.in_default-kind_of.is in
     c.in_ok-tree.ensures.emptied (end_short c.args.grammar.now c.args.trees c.args.line.now _ c.tokens.stack.items c.tokens.nodes.items c.tokens.invariant.holds ended)
 
 pub take-requires : goal.take-requires

@@ -1,4 +1,4 @@
-use Rattle.std.proofs.Common.{ℕ, length}
+use Rattle.std.proofs.Common.{length}
 use Rattle.sel_forest.proofs.LineLoop.{Reached}
 use Rattle.sel_forest.proofs.read.read_line.Given as goal
 
