@@ -45,7 +45,7 @@ slice_get-right [] ys k j h = let q : j ≡ k = omega arith in ap (slice_get ys)
 slice_get-right (x ∷ xs) ys k zero h = absurd (omega arith)
 slice_get-right (x ∷ xs) ys k (suc j) h = slice_get-right xs ys k j (omega arith)
 
-length-postorder : (t : PlainTree) (base : ℕ) → length (postorder base t) ≡ size t
+pub length-postorder : (t : PlainTree) (base : ℕ) → length (postorder base t) ≡ size t
 length-postorder (Node0 op a) base = refl
 length-postorder (Node1 op a t) base =
     let n : Node = record { operator = op; kids = 1; left = base + size t - 1; right = 0; attribute = a } in

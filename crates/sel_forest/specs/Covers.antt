@@ -1,5 +1,5 @@
 -- What is to be answered of a tree.
-use Rattle.std.specs.Prelude.{◌≡◌, ℕ, Option, Some, None}
+use Rattle.std.specs.Prelude.{◌≡◌, Option, Some, None}
 use Rattle.sel_grammar.specs.declared.grammar.Grammar.{Grammar}
 use Rattle.sel_grammar.specs.PlainTrees.{PlainTree}
 use Rattle.sel_grammar.specs.Derivations.{Derivation, cost, list}

@@ -2,6 +2,15 @@ pub mod Limits
 pub mod Postorder
 pub mod Symbols
 pub mod Valid
+pub mod Tokens
+pub mod Pieces
+pub mod Form
+pub mod Machine
+pub mod TreeText
+pub mod LineFaults
+pub mod ForestText
+pub mod OpenNodes
+pub mod Surroundings
 pub mod Places
 pub mod Covers
 pub mod Laws

@@ -3,6 +3,10 @@ use Rattle.std.specs.Prelude.{◌≡◌, ℕ, Bool, true, List, [], ◌∷◌, �
 use Rattle.std.specs.List.{list_all}
 use Rattle.std.specs.Char.{is_ascii_digit, is_ascii_alphabetic}
 
+-- space, tab, CR, form feed
+abbrev pub is_blank : ℕ → Bool
+is_blank b = (b == 32) || (b == 9) || (b == 13) || (b == 12)
+
 -- a letter or _
 abbrev pub is_letter : ℕ → Bool
 is_letter b = is_ascii_alphabetic b || (b == 95)

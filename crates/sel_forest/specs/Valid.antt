@@ -1,5 +1,5 @@
 -- Valid trees and forests under a grammar.
-use Rattle.std.specs.Prelude.{◌≡◌, ℕ, ◌+◌, ◌≤◌, ◌^◌, max, length, slice_get, Option, Some, None, List, pos, neg_ℤ, ◌≤ℤ◌, ◌<ℤ◌}
+use Rattle.std.specs.Prelude.{◌≡◌, ℕ, ◌+◌, ◌≤◌, ◌^◌, max, length, slice_get, Option, Some, None, pos, neg_ℤ, ◌≤ℤ◌, ◌<ℤ◌}
 use Rattle.sel_grammar.specs.declared.grammar.Attribute.{Attribute}
 use Rattle.sel_grammar.specs.declared.grammar.Attribute.TheVariants.{Absent, Number, Symbol}
 use Rattle.sel_grammar.specs.declared.grammar.Grammar.{Grammar}

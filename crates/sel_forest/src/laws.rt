@@ -1,7 +1,27 @@
 //! Laws of the definitions. The functions do nothing: their contracts say them.
-ghost use Rattle.sel_forest.specs.Laws.{PlainTreeIsOne};
+ghost use Rattle.sel_forest.specs.Laws.{PlainTreeIsOne, ForestIsOne, ForestFaultIsOne, ForestOrFault, SomeForestOrFault};
 
 /// Nodes are the postorder of at most one tree.
 pub fn plain_tree_is_one()
     ensures { PlainTreeIsOne }
+{}
+
+/// A text spells at most one forest under a grammar.
+pub fn forest_is_one()
+    ensures { ForestIsOne }
+{}
+
+/// A text has at most one first fault under a grammar.
+pub fn forest_fault_is_one()
+    ensures { ForestFaultIsOne }
+{}
+
+/// A text that spells a forest has no fault.
+pub fn forest_or_fault()
+    ensures { ForestOrFault }
+{}
+
+/// A text spells a forest or has a fault, under each grammar within the limits.
+pub fn some_forest_or_fault()
+    ensures { SomeForestOrFault }
 {}

@@ -1,13 +1,20 @@
 //! Forests of trees in postorder, and covers.
 #![tactic(auto)]
 
+mod build;
+mod faults;
 mod forest;
 pub mod laws;
 pub mod limits;
+mod line;
+mod number;
+mod read;
 mod refusal;
+mod tokens;
 mod walk;
 
 pub use forest::{Cover, Forest, Node, Tree};
+pub use read::read_forest;
 pub use refusal::{ForestFault, ForestRefusal};
 pub use sel_grammar::Attribute;
 pub use walk::{Goal, fits_at, in_range, met, node_at, push_goals, rule_of};

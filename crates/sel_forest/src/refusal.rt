@@ -1,3 +1,5 @@
+ghost use Rattle.std.specs.Prelude.{◌≡◌};
+
 use sel_base::NoMemory;
 
 /// The first fault of a forest's text: its kind (`limits` has their names), and its line and column,
@@ -17,6 +19,10 @@ pub enum ForestRefusal {
 }
 
 impl From<NoMemory> for ForestRefusal {
+    ghost use Rattle.sel_forest.specs.declared.refusal.ForestRefusal.TheVariants as refusal;
+
+    ghost from_gives = { λ _ e. e ≡ refusal.NoMemory };
+
     fn from(_: NoMemory) -> ForestRefusal {
         ForestRefusal::NoMemory
     }

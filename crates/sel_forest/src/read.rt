@@ -1,0 +1,161 @@
+//! Forests read from text.
+
+ghost use Rattle.std.specs.Prelude.{◌≡◌, ℕ, List, [], ◌∷◌, ◌++◌, ◌<◌, ◌≤◌, ◌+◌, ◌-◌, ◌^◌, length, None, Some, IfOk, IfErr, OnOk, IfSome, OnSome, not, ◌==◌, option_to_list, drop};
+ghost use Rattle.std.specs.List.{prefix_len};
+ghost use Rattle.sel_grammar.specs.Limits.{IsWithinLimits};
+ghost use Rattle.sel_forest.specs.ForestText.{lines_of, SpellsForest, IsForestRefusal, IsLineResult, IsLineRefusal};
+ghost use Rattle.sel_forest.specs.Limits.{most_trees};
+ghost use Rattle.sel_forest.specs.Pieces.{lines_behind};
+ghost use Rattle.sel_forest.specs.Valid.{IsValidForest};
+
+use crate::build::{finish, take};
+use crate::faults::{kind_of, surroundings_of};
+use crate::forest::{Forest, Node, Tree};
+use crate::limits::{MOST_NODES, TOKEN};
+use crate::line::{State, step, wants_attribute};
+use crate::refusal::{ForestFault, ForestRefusal};
+use crate::tokens::next_token;
+use sel_base::{List, NoMemory};
+use sel_grammar::Grammar;
+use std::alloc::Global;
+
+/// A line, and what stands behind its line feed, if it has one.
+#[derive(Clone, Copy, Debug)]
+struct Cut<'a> {
+    line: &'a [u8],
+    rest: Option<&'a [u8]>,
+}
+
+fn line_len(bytes: &[u8]) -> usize
+    ensures len { result ≡ prefix_len (λ b. not (b == 10)) bytes.now }
+    ensures fits { result ≤ length bytes.now }
+{
+    bytes.iter().take_while(|b| **b != b'\n').count()
+}
+
+fn behind(bytes: &[u8], count: usize) -> &[u8]
+    requires { count ≤ length bytes.now }
+    ensures { result.now ≡ drop count bytes.now }
+{
+    &bytes[count..]
+}
+
+/// The first line of a text.
+#[tactic(auto, using(crate::proofs::ForestLoop::last_cut, crate::proofs::ForestLoop::first_cut))]
+fn first_line(bytes: &[u8]) -> Cut<'_>
+    ensures lines { lines_of bytes.now ≡ result.line.now ∷ lines_behind result.rest }
+    ensures inside { length result.line.now ≤ length bytes.now }
+    ensures shorter { IfSome result.rest (λ rest. length rest.now < length bytes.now) }
+{
+    let len = line_len(bytes);
+    if len < bytes.len() {
+        return Cut {
+            line: &bytes[..len],
+            rest: Some(behind(bytes, len + 1)),
+        };
+    }
+    Cut {
+        line: &bytes[..len],
+        rest: None,
+    }
+}
+
+fn fault(kind: u8, number: u32, line: &[u8], from: &[u8]) -> ForestRefusal
+    requires within { length from.now ≤ length line.now }
+    requires short { length line.now + 1 < 2 ^ 32 }
+    ensures { result ≡ ForestRefusal.Fault (record { kind = kind; line = number; column = (length line.now - length from.now) + 1 }) }
+{
+    ForestRefusal::Fault(ForestFault {
+        kind,
+        line: number,
+        column: (line.len() - from.len()) as u32 + 1,
+    })
+}
+
+/// Room for the nodes of the line's tree: one more than it has parentheses and commas.
+fn room(alloc: Global, line: &[u8]) -> Result<Vec<Node>, NoMemory>
+    ensures { IfOk result (λ nodes. nodes.items ≡ []) }
+{
+    let kids = line.iter().filter(|b| **b == b'(' || **b == b',').count();
+    let nodes = Vec::with_capacity(alloc, kids.min(MOST_NODES - 1) + 1)?;
+    Ok(nodes)
+}
+
+/// The tree of a line, or none where the line is blank. The stack is empty before and behind it.
+fn read_line(
+    alloc: Global,
+    grammar: &Grammar,
+    trees: usize,
+    number: u32,
+    line: &[u8],
+    stack: &mut Vec<Node>,
+) -> Result<Option<Tree>, ForestRefusal>
+    requires within { IsWithinLimits grammar.now }
+    requires short { length line.now + 1 < 2 ^ 32 }
+    requires empty { stack.old.items ≡ [] }
+    ensures line { IfOk result (λ tree. IsLineResult grammar.now line.now tree) }
+    ensures few { IfOk result (λ tree. OnSome tree (trees < most_trees)) }
+    ensures emptied { OnOk result (stack.new.items ≡ []) }
+    ensures refusal { IfErr result (λ refusal. IsLineRefusal grammar.now trees line.now number refusal) }
+{
+    let mut nodes = room(alloc, line)?;
+    let mut state = State::Start;
+    let mut rest = line;
+    'tokens: loop {
+        let found = next_token(wants_attribute(state), rest);
+        let Some(next) = step(state, &found.piece) else {
+            return Err(fault(TOKEN, number, line, found.from));
+        };
+        let place = surroundings_of(state, stack, nodes.len());
+        if let Some(kind) = kind_of(grammar, trees, place, &found.piece) {
+            return Err(fault(kind, number, line, found.from));
+        }
+        if let State::Ended = next {
+            let tree = finish(stack, nodes)?;
+            return Ok(tree);
+        }
+        take(alloc, grammar, stack, &mut nodes, &found.piece)?;
+        state = next;
+        rest = found.behind;
+    }
+}
+
+fn add(trees: &mut List<Tree>, tree: Option<Tree>) -> Result<(), NoMemory>
+    ensures { OnOk result (trees.new ≡ trees.old ++ option_to_list tree) }
+{
+    if let Some(tree) = tree {
+        trees.push(tree)?;
+    }
+    Ok(())
+}
+
+/// The forest that the text spells under the grammar. Each line has one tree, or blanks alone. A tree
+/// is its operator's name, then its attribute, if any, behind a `:`, and then its kids, if any, in
+/// parentheses and with commas between them. Blanks are space, tab, carriage return and form feed, and
+/// may stand between any two tokens. The last line may lack its line feed.
+///
+/// A fault is at the first token that has one, and the line's end is a token. At one token the kinds
+/// come in this order: `TOKEN`, `TOO_MANY_TREES`, `TOO_DEEP`, `TOO_MANY_NODES`, `UNKNOWN_OPERATOR`,
+/// `ARITY`, `NUMBER_LARGE`.
+pub fn read_forest(alloc: Global, grammar: &Grammar, bytes: &[u8]) -> Result<Forest, ForestRefusal>
+    requires within { IsWithinLimits grammar.now }
+    requires short { length bytes.now < 4294967295 }
+    ensures ok { IfOk result (λ forest. SpellsForest grammar.now bytes.now forest) }
+    ensures valid { IfOk result (λ forest. IsValidForest grammar.now forest) }
+    ensures fault { IfErr result (λ refusal. IsForestRefusal grammar.now bytes.now refusal) }
+{
+    let mut trees = List::new(alloc);
+    let mut stack = Vec::new(alloc);
+    let mut number = 1;
+    let mut rest = bytes;
+    'lines: loop {
+        let cut = first_line(rest);
+        let tree = read_line(alloc, grammar, trees.len(), number, cut.line, &mut stack)?;
+        add(&mut trees, tree)?;
+        let Some(behind) = cut.rest else {
+            return Ok(Forest { trees });
+        };
+        rest = behind;
+        number += 1;
+    }
+}

@@ -1,0 +1,154 @@
+//! The tokens of a line.
+
+ghost use Rattle.std.specs.Prelude.{◌≡◌, ℕ, ◌≤◌, length, take, drop};
+ghost use Rattle.std.specs.List.{prefix_len};
+ghost use Rattle.std.specs.Char.{is_ascii_digit};
+ghost use Rattle.sel_forest.specs.Symbols as symbols;
+ghost use Rattle.sel_forest.specs.Tokens as tokens;
+ghost use Rattle.sel_forest.specs.Pieces.{view};
+
+fn is_blank(b: u8) -> bool
+    ensures { result ≡ symbols.is_blank b }
+{
+    b == b' ' || b == b'\t' || b == b'\r' || b == 12
+}
+
+fn is_letter(b: u8) -> bool
+    ensures { result ≡ symbols.is_letter b }
+{
+    b.is_ascii_alphabetic() || b == b'_'
+}
+
+fn is_name_byte(b: u8) -> bool
+    ensures { result ≡ symbols.is_name_byte b }
+{
+    is_letter(b) || b.is_ascii_digit()
+}
+
+fn is_symbol_start(b: u8) -> bool
+    ensures { result ≡ symbols.is_symbol_start b }
+{
+    is_letter(b) || b == b'.' || b == b'$' || b == b'@'
+}
+
+fn is_symbol_byte(b: u8) -> bool
+    ensures { result ≡ symbols.is_symbol_byte b }
+{
+    is_symbol_start(b) || b.is_ascii_digit()
+}
+
+/// How many bytes at the front are blanks.
+fn blanks(bytes: &[u8]) -> usize
+    ensures len { result ≡ prefix_len symbols.is_blank bytes.now }
+    ensures fits { result ≤ length bytes.now }
+{
+    bytes.iter().take_while(|b| is_blank(**b)).count()
+}
+
+fn name_len(bytes: &[u8]) -> usize
+    ensures len { result ≡ prefix_len symbols.is_name_byte bytes.now }
+    ensures fits { result ≤ length bytes.now }
+{
+    bytes.iter().take_while(|b| is_name_byte(**b)).count()
+}
+
+fn symbol_len(bytes: &[u8]) -> usize
+    ensures len { result ≡ prefix_len symbols.is_symbol_byte bytes.now }
+    ensures fits { result ≤ length bytes.now }
+{
+    bytes.iter().take_while(|b| is_symbol_byte(**b)).count()
+}
+
+fn digits_len(bytes: &[u8]) -> usize
+    ensures len { result ≡ prefix_len is_ascii_digit bytes.now }
+    ensures fits { result ≤ length bytes.now }
+{
+    bytes.iter().take_while(|b| b.is_ascii_digit()).count()
+}
+
+/// A token, which borrows the line.
+#[derive(Clone, Copy, Debug)]
+pub enum Piece<'a> {
+    Name(&'a [u8]),
+    Number(&'a [u8]),
+    Symbol(&'a [u8]),
+    Colon,
+    Open,
+    Comma,
+    Close,
+    Bad(u8),
+    End,
+}
+
+/// A byte that is a token of its own, or none.
+fn mark<'a>(b: u8) -> Piece<'a>
+    ensures { view result ≡ tokens.mark b }
+{
+    match b {
+        b':' => Piece::Colon,
+        b'(' => Piece::Open,
+        b',' => Piece::Comma,
+        b')' => Piece::Close,
+        _ => Piece::Bad(b),
+    }
+}
+
+/// The token at the front of the bytes, which begin with no blank. Behind a colon a number or a symbol is meant.
+fn token_at(attribute: bool, bytes: &[u8]) -> Piece<'_>
+    ensures token { view result ≡ tokens.token_of attribute bytes.now }
+    ensures fits { tokens.width (view result) ≤ length bytes.now }
+{
+    let Some((first, rest)) = bytes.split_first() else {
+        return Piece::End;
+    };
+    if attribute {
+        if is_symbol_start(*first) {
+            Piece::Symbol(&bytes[..symbol_len(bytes)])
+        } else if first.is_ascii_digit() {
+            Piece::Number(&bytes[..digits_len(bytes)])
+        } else if *first == b'-' && digits_len(rest) > 0 {
+            Piece::Number(&bytes[..1 + digits_len(rest)])
+        } else {
+            mark(*first)
+        }
+    } else if is_letter(*first) {
+        Piece::Name(&bytes[..name_len(bytes)])
+    } else {
+        mark(*first)
+    }
+}
+
+/// How many bytes a token takes.
+fn width(piece: &Piece<'_>) -> usize
+    ensures { result ≡ tokens.width (view piece.now) }
+{
+    match piece {
+        Piece::Name(bytes) | Piece::Number(bytes) | Piece::Symbol(bytes) => bytes.len(),
+        Piece::Colon | Piece::Open | Piece::Comma | Piece::Close | Piece::Bad(_) => 1,
+        Piece::End => 0,
+    }
+}
+
+/// A token, the bytes from it on, and the bytes behind it.
+#[derive(Clone, Copy, Debug)]
+pub struct Found<'a> {
+    pub piece: Piece<'a>,
+    pub from: &'a [u8],
+    pub behind: &'a [u8],
+}
+
+/// The next token, blanks left out.
+pub fn next_token(attribute: bool, bytes: &[u8]) -> Found<'_>
+    ensures from { result.from.now ≡ tokens.skip bytes.now }
+    ensures token { view result.piece ≡ tokens.token_of attribute (tokens.skip bytes.now) }
+    ensures behind { result.behind.now ≡ drop (tokens.width (view result.piece)) (tokens.skip bytes.now) }
+{
+    let from = &bytes[blanks(bytes)..];
+    let piece = token_at(attribute, from);
+    let behind = &from[width(&piece)..];
+    Found {
+        piece,
+        from,
+        behind,
+    }
+}
