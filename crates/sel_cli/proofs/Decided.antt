@@ -1,0 +1,237 @@
+-- What told texts decide comes, or what is excused.
+use Rattle.std.proofs.Common.{◌≡◌, ℕ, ◌<◌, ◌≤◌, Bool, true, false, List, [], ◌∷◌, length, Option, Some, None, is_some, IfSome, ◌&&◌, refl, sym, ap, ◌∙◌, subst, inl, inr, ◌⊎◌, arith}
+use Rattle.std.specs.List.{list_all}
+use Rattle.std.specs.Io.KnownBytes.{append_known}
+use Rattle.sel_base.specs.Causes.{Rose}
+use Rattle.sel_grammar.specs.declared.grammar.Grammar.{Grammar}
+use Rattle.sel_grammar.specs.declared.refusal.GrammarFault.{GrammarFault}
+use Rattle.sel_grammar.specs.Derivations.{Derives}
+use Rattle.sel_grammar.specs.PlainForm.{SpellsGrammar, IsGrammarFault}
+use Rattle.sel_grammar.proofs.PlainGrammars.{grammar_one}
+use Rattle.sel_grammar.proofs.PlainDecided.{fault_one as grammar_fault_one, not_both as grammar_or_fault}
+use Rattle.sel_forest.specs.declared.forest.Cover.{Cover}
+use Rattle.sel_forest.specs.declared.forest.Tree.{Tree}
+use Rattle.sel_forest.specs.declared.forest.Forest.{Forest}
+use Rattle.sel_forest.specs.declared.refusal.ForestFault.{ForestFault}
+use Rattle.sel_forest.specs.Covers.{IsAnswer}
+use Rattle.sel_forest.specs.ForestText.{SpellsForest, IsForestFault}
+use Rattle.sel_forest.proofs.OneForest.{forest_one}
+use Rattle.sel_forest.proofs.OneFault.{fault_one as forest_fault_one, forest_or_fault}
+use Rattle.sel_forest.proofs.Roots.{plain_one}
+use Rattle.sel_cli.specs.Words.{TextNames}
+use Rattle.sel_cli.specs.Output.{AreAnswers, IsTreesAnswer, IsOutput}
+use Rattle.sel_cli.specs.Texts.{Request, IsTold, MayBe, HasGrammarText, HasForestText, AcceptsGrammar, AcceptsForest, IsTooLong, RefusesGrammar, RefusesForest, IsWhole, grammar_limit, forest_limit}
+use Rattle.sel_cli.specs.Ends.{Reads, EndsFor, StopsFor, WritesFor, Decides, IsExcused, IsAnswered, finished}
+use Rattle.sel_cli.specs.declared.status.Status.{Status}
+use Rattle.sel_cli.specs.declared.status.Status.TheVariants.{Done, Usage, ReadFault, TooBig, BadGrammar, BadForest, WriteFault, NoMemory, Uncovered}
+
+-- ---- what is found of the texts, one after the other
+
+data ForestSide : Type 0 where
+  long_forest : ForestSide
+  bad_forest : ForestFault → ForestSide
+  good_forest : Forest → ForestSide
+
+data Side : Type 0 where
+  long_grammar : Side
+  bad_grammar : GrammarFault → Side
+  good_grammar : Grammar → ForestSide → Side
+
+abbrev FindsForest : Grammar → List ℕ → ForestSide → Type 0
+FindsForest g text long_forest = forest_limit < length text
+FindsForest g text (bad_forest fault) = (length text ≤ forest_limit) × IsForestFault g text fault
+FindsForest g text (good_forest forest) = (length text ≤ forest_limit) × SpellsForest g text forest
+
+abbrev FindsGrammar : (Option (List ℕ) → List ℕ → Type 0) → Option (List ℕ) → List ℕ → Side → Type 0
+FindsGrammar Is told text long_grammar = grammar_limit < length text
+FindsGrammar Is told text (bad_grammar fault) = (length text ≤ grammar_limit) × IsGrammarFault text fault
+FindsGrammar Is told text (good_grammar g side) = (length text ≤ grammar_limit) × SpellsGrammar text g × ((t : List ℕ) × Is told t × FindsForest g t side)
+
+-- none where the words are no command
+abbrev Finds : (Option (List ℕ) → List ℕ → Type 0) → Request → Option Side → Type 0
+Finds Is request None = request.wanted ≡ None
+Finds Is request (Some side) = (names : TextNames) × (text : List ℕ) × HasGrammarText Is request names text × FindsGrammar Is (request.held names.forest) text side
+
+-- ---- it is one
+
+over : {A : Type 0} (limit n : ℕ) → limit < n → n ≤ limit → A
+over limit n p q = absurd (omega arith)
+
+some_same : {A : Type 0} (o : Option A) (a b : A) → o ≡ Some a → o ≡ Some b → a ≡ b
+some_same o a b p q = cc
+
+some_none : {A B : Type 0} (o : Option A) (a : A) → o ≡ None → o ≡ Some a → B
+some_none o a p q = cc
+
+same_text : (told : Option (List ℕ)) (text other : List ℕ) → MayBe told text → IsTold told other → text ≡ other
+same_text told text other m e = let P : Option (List ℕ) → Type 0 = λ o. IfSome o (λ b. text ≡ b) in subst P e m
+
+same_forest_side : (g : Grammar) (text : List ℕ) (a b : ForestSide) → FindsForest g text a → FindsForest g text b → a ≡ b
+same_forest_side g text long_forest long_forest p q = refl
+same_forest_side g text long_forest (bad_forest fault) p q = over _ _ p q.0
+same_forest_side g text long_forest (good_forest forest) p q = over _ _ p q.0
+same_forest_side g text (bad_forest fault) long_forest p q = over _ _ q p.0
+same_forest_side g text (bad_forest fault) (bad_forest other) p q = ap (λ f. bad_forest f) (forest_fault_one g text fault other p.1 q.1)
+same_forest_side g text (bad_forest fault) (good_forest forest) p q = absurd (forest_or_fault g text forest fault q.1 p.1)
+same_forest_side g text (good_forest forest) long_forest p q = over _ _ q p.0
+same_forest_side g text (good_forest forest) (bad_forest fault) p q = absurd (forest_or_fault g text forest fault p.1 q.1)
+same_forest_side g text (good_forest forest) (good_forest other) p q = ap (λ f. good_forest f) (forest_one g text forest other p.1 q.1)
+
+same_side : (told : Option (List ℕ)) (text : List ℕ) (a b : Side) → FindsGrammar MayBe told text a → FindsGrammar IsTold told text b → a ≡ b
+same_side told text long_grammar long_grammar p q = refl
+same_side told text long_grammar (bad_grammar fault) p q = over _ _ p q.0
+same_side told text long_grammar (good_grammar g side) p q = over _ _ p q.0
+same_side told text (bad_grammar fault) long_grammar p q = over _ _ q p.0
+same_side told text (bad_grammar fault) (bad_grammar other) p q = ap (λ f. bad_grammar f) (grammar_fault_one text fault other p.1 q.1)
+same_side told text (bad_grammar fault) (good_grammar g side) p q = absurd (grammar_or_fault text g fault q.1 p.1)
+same_side told text (good_grammar g side) long_grammar p q = over _ _ q p.0
+same_side told text (good_grammar g side) (bad_grammar fault) p q = absurd (grammar_or_fault text g fault p.1 q.1)
+same_side told text (good_grammar g side) (good_grammar h other) (within, spelled, (t, may, found)) (within', spelled', (u, is, found')) =
+    let e : g ≡ h = grammar_one text g h spelled spelled' in
+    let f : t ≡ u = same_text told t u may is in
+    let moved : FindsForest h u side = subst (λ x. FindsForest x u side) e (subst (λ x. FindsForest g x side) f found) in
+    ap (λ x. good_grammar x side) e ∙ ap (λ x. good_grammar h x) (same_forest_side h u side other moved found')
+
+same_found : (request : Request) (a b : Option Side) → Finds MayBe request a → Finds IsTold request b → a ≡ b
+same_found request None None p q = refl
+same_found request None (Some side) p q = some_none request.wanted q.0 p (q.2).asked_for
+same_found request (Some side) None p q = some_none request.wanted p.0 q (p.2).asked_for
+same_found request (Some side) (Some other) (names, text, has, found) (names', text', has', found') =
+    let n : names ≡ names' = some_same request.wanted names names' has.asked_for has'.asked_for in
+    let may : MayBe (request.held names'.grammar) text = subst (λ (x : TextNames). MayBe (request.held x.grammar) text) n has.is_text in
+    let t : text ≡ text' = same_text (request.held names'.grammar) text text' may has'.is_text in
+    let here : FindsGrammar MayBe (request.held names'.forest) text side = subst (λ (x : TextNames). FindsGrammar MayBe (request.held x.forest) text side) n found in
+    ap (λ x. Some x) (same_side (request.held names'.forest) text' side other (subst (λ x. FindsGrammar MayBe (request.held names'.forest) x side) t here) found')
+
+-- ---- the status that it shows
+
+abbrev Shows : Option Side → List ℕ → Status → Type 0
+Shows None bytes status = status ≡ Usage
+Shows (Some long_grammar) bytes status = status ≡ TooBig
+Shows (Some (bad_grammar fault)) bytes status = status ≡ BadGrammar fault
+Shows (Some (good_grammar g long_forest)) bytes status = status ≡ TooBig
+Shows (Some (good_grammar g (bad_forest fault))) bytes status = status ≡ BadForest fault
+Shows (Some (good_grammar g (good_forest forest))) bytes status = (covered : Bool) × IsOutput g forest covered bytes × (status ≡ finished covered)
+
+-- a tree's answer is a cover, or it is none
+same_answer : (g : Grammar) (tree : Tree) (a b : Option Cover) → IsTreesAnswer g tree a → IsTreesAnswer g tree b → is_some a ≡ is_some b
+same_answer g tree None None p q = refl
+same_answer g tree (Some cover) (Some other) p q = refl
+same_answer g tree None (Some cover) (t, is, none) (u, is', best) =
+    absurd (none best.best (subst (λ x. Derives g best.best g.start x) (plain_one tree u t is' is) best.is_best.derives))
+same_answer g tree (Some cover) None (t, is, best) (u, is', none) =
+    absurd (none best.best (subst (λ x. Derives g best.best g.start x) (plain_one tree t u is is') best.is_best.derives))
+
+same_covered : (g : Grammar) (trees : List Tree) (a b : List (Option Cover)) → AreAnswers g trees a → AreAnswers g trees b → list_all is_some a ≡ list_all is_some b
+same_covered g [] [] [] p q = refl
+same_covered g [] [] (y ∷ ys) p q = absurd q
+same_covered g [] (x ∷ xs) b p q = absurd p
+same_covered g (t ∷ trees) [] b p q = absurd p
+same_covered g (t ∷ trees) (x ∷ xs) [] p q = absurd q
+same_covered g (t ∷ trees) (x ∷ xs) (y ∷ ys) p q =
+    ap (λ c. c && list_all is_some xs) (same_answer g t x y p.0 q.0) ∙ ap (λ c. is_some y && c) (same_covered g trees xs ys p.1 q.1)
+
+same_shown : (side : Option Side) (bytes other : List ℕ) (status another : Status) → Shows side bytes status → Shows side other another → status ≡ another
+same_shown None bytes other status another p q = p ∙ sym q
+same_shown (Some long_grammar) bytes other status another p q = p ∙ sym q
+same_shown (Some (bad_grammar fault)) bytes other status another p q = p ∙ sym q
+same_shown (Some (good_grammar g long_forest)) bytes other status another p q = p ∙ sym q
+same_shown (Some (good_grammar g (bad_forest fault))) bytes other status another p q = p ∙ sym q
+same_shown (Some (good_grammar g (good_forest forest))) bytes other status another (covered, output, is) (covered', output', is') =
+    let e : covered ≡ covered' = sym output.all_covered ∙ same_covered g forest.trees output.answers output'.answers output.answer_trees output'.answer_trees ∙ output'.all_covered in
+    is ∙ ap finished e ∙ sym is'
+
+-- ---- from what is told
+
+abbrev Found : (Option (List ℕ) → List ℕ → Type 0) → Request → List ℕ → Status → Type 0
+Found Is request bytes status = (side : Option Side) × Finds Is request side × Shows side bytes status
+
+long_found : (Is : Option (List ℕ) → List ℕ → Type 0) (request : Request) (name : List ℕ) (limit : ℕ) (bytes : List ℕ) → IsTooLong Is request name limit → Found Is request bytes TooBig
+long_found Is request name limit bytes (inl (names, text, has, named, l, long)) = (Some long_grammar, (names, text, has, subst (λ k. k < length text) l long), refl)
+long_found Is request name limit bytes (inr (names, g, text, has, named, l, long)) =
+    (Some (good_grammar g long_forest), (names, has.accepts_grammar.text, has.accepts_grammar.has, (has.accepts_grammar.within, has.accepts_grammar.spelled, (text, has.is_text, subst (λ k. k < length text) l long))), refl)
+
+bad_grammar_found : (Is : Option (List ℕ) → List ℕ → Type 0) (request : Request) (name : List ℕ) (fault : GrammarFault) (bytes : List ℕ) → RefusesGrammar Is request name fault → Found Is request bytes (BadGrammar fault)
+bad_grammar_found Is request name fault bytes r = (Some (bad_grammar fault), (r.names, r.text, r.has, (r.within, r.refused)), refl)
+
+bad_forest_found : (Is : Option (List ℕ) → List ℕ → Type 0) (request : Request) (name : List ℕ) (fault : ForestFault) (bytes : List ℕ) → RefusesForest Is request name fault → Found Is request bytes (BadForest fault)
+bad_forest_found Is request name fault bytes r =
+    let a = r.has.accepts_grammar in
+    (Some (good_grammar r.grammar (bad_forest fault)), (r.names, a.text, a.has, (a.within, a.spelled, (r.text, r.has.is_text, (r.within, r.refused)))), refl)
+
+accepted_found : (Is : Option (List ℕ) → List ℕ → Type 0) (request : Request) (g : Grammar) (forest : Forest) → AcceptsForest Is request g forest → Finds Is request (Some (good_grammar g (good_forest forest)))
+accepted_found Is request g forest r =
+    let a = r.has.accepts_grammar in
+    (r.names, a.text, a.has, (a.within, a.spelled, (r.text, r.has.is_text, (r.within, r.spelled))))
+
+whole_found : (Is : Option (List ℕ) → List ℕ → Type 0) (request : Request) (covered : Bool) (bytes : List ℕ) → IsWhole Is request covered bytes → Found Is request bytes (finished covered)
+whole_found Is request covered bytes (g, forest, accepts, output) =
+    (Some (good_grammar g (good_forest forest)), accepted_found Is request g forest accepts, (covered, output, refl))
+
+decides_found : (request : Request) (status : Status) → Decides request status → (bytes : List ℕ) × Found IsTold request bytes status
+decides_found request Usage d = ([], (None, d, refl))
+decides_found request TooBig (name, limit, long) = ([], long_found IsTold request name limit [] long)
+decides_found request (BadGrammar fault) (name, r) = ([], bad_grammar_found IsTold request name fault [] r)
+decides_found request (BadForest fault) (name, r) = ([], bad_forest_found IsTold request name fault [] r)
+decides_found request Done (bytes, w) = (bytes, whole_found IsTold request true bytes w)
+decides_found request Uncovered (bytes, w) = (bytes, whole_found IsTold request false bytes w)
+decides_found request ReadFault d = absurd d
+decides_found request WriteFault d = absurd d
+decides_found request NoMemory d = absurd d
+
+ends_found : (request : Request) (reads : Reads) (before after : ℕ) (name bytes : List ℕ) (status : Status)
+    → EndsFor request reads before after name bytes status → IsExcused status ⊎ Found MayBe request bytes status
+ends_found request reads before after name bytes Usage (inl e) = inr (None, e.1, refl)
+ends_found request reads before after name bytes TooBig (inl e) = inr (long_found MayBe request name (e.1).limit bytes (e.1).too_long)
+ends_found request reads before after name bytes (BadGrammar fault) (inl e) = inr (bad_grammar_found MayBe request name fault bytes e.1)
+ends_found request reads before after name bytes (BadForest fault) (inl e) = inr (bad_forest_found MayBe request name fault bytes e.1)
+ends_found request reads before after name bytes Done (inl e) = absurd e.1
+ends_found request reads before after name bytes Uncovered (inl e) = absurd e.1
+ends_found request reads before after name bytes Usage (inr e) = absurd e
+ends_found request reads before after name bytes TooBig (inr e) = absurd e
+ends_found request reads before after name bytes (BadGrammar fault) (inr e) = absurd e
+ends_found request reads before after name bytes (BadForest fault) (inr e) = absurd e
+ends_found request reads before after name bytes Done (inr e) = inr (whole_found MayBe request true bytes e)
+ends_found request reads before after name bytes Uncovered (inr e) = inr (whole_found MayBe request false bytes e)
+ends_found request reads before after name bytes ReadFault e = inl tt
+ends_found request reads before after name bytes WriteFault e = inl tt
+ends_found request reads before after name bytes NoMemory e = inl tt
+
+pub decided : (request : Request) (reads : Reads) (before after : ℕ) (name bytes : List ℕ) (result status : Status)
+    → EndsFor request reads before after name bytes result → Decides request status → (result ≡ status) ⊎ IsExcused result
+decided request reads before after name bytes result status ends d = go (ends_found request reads before after name bytes result ends) (decides_found request status d)
+  where
+    go : IsExcused result ⊎ Found MayBe request bytes result → ((other : List ℕ) × Found IsTold request other status) → (result ≡ status) ⊎ IsExcused result
+    go (inl x) k = inr x
+    go (inr (side, found, shows)) (other, (side', found', shows')) =
+        let e = same_found request side side' found found' in
+        inl (same_shown side' bytes other result status (subst (λ s. Shows s bytes result) e shows) shows')
+
+-- ---- completeness
+
+excused_ends : (request : Request) (reads : Reads) (before after : ℕ) (name bytes : List ℕ) (result : Status)
+    → ¬ Rose reads.before reads.after → ¬ Rose before after → EndsFor request reads before after name bytes result → IsExcused result → result ≡ NoMemory
+excused_ends request reads before after name bytes NoMemory nr nw ends x = refl
+excused_ends request reads before after name bytes ReadFault nr nw (inl e) x = absurd (nr (e.1).rose)
+excused_ends request reads before after name bytes ReadFault nr nw (inr e) x = absurd e
+excused_ends request reads before after name bytes WriteFault nr nw (inl e) x = absurd e.1
+excused_ends request reads before after name bytes WriteFault nr nw (inr e) x = absurd (nw e.0)
+excused_ends request reads before after name bytes Done nr nw ends x = absurd x
+excused_ends request reads before after name bytes Uncovered nr nw ends x = absurd x
+excused_ends request reads before after name bytes Usage nr nw ends x = absurd x
+excused_ends request reads before after name bytes TooBig nr nw ends x = absurd x
+excused_ends request reads before after name bytes (BadGrammar fault) nr nw ends x = absurd x
+excused_ends request reads before after name bytes (BadForest fault) nr nw ends x = absurd x
+
+pub completes : (request : Request) (reads : Reads) (before after : ℕ) (name bytes : List ℕ) (result : Status) (old new : Option (List ℕ))
+    → new ≡ append_known old bytes → EndsFor request reads before after name bytes result
+    → (g : Grammar) (forest : Forest) → AcceptsForest IsTold request g forest → ¬ Rose reads.before reads.after → ¬ Rose before after
+    → (result ≡ NoMemory) ⊎ IsAnswered g forest old new result
+completes request reads before after name bytes result old new written ends g forest accepts nr nw = go (ends_found request reads before after name bytes result ends)
+  where
+    go : IsExcused result ⊎ Found MayBe request bytes result → (result ≡ NoMemory) ⊎ IsAnswered g forest old new result
+    go (inl x) = inl (excused_ends request reads before after name bytes result nr nw ends x)
+    go (inr (side, found, shows)) =
+        let e : side ≡ Some (good_grammar g (good_forest forest)) = same_found request side (Some (good_grammar g (good_forest forest))) found (accepted_found IsTold request g forest accepts) in
+        let shown : Shows (Some (good_grammar g (good_forest forest))) bytes result = subst (λ s. Shows s bytes result) e shows in
+        inr (record { covered = shown.0; bytes = bytes; output = shown.1; written = written; finishes = shown.2 })

@@ -1,0 +1,5 @@
+pub mod Answering
+pub mod Endings
+pub mod Decided
+pub mod Tells
+pub mod Joining

@@ -1,0 +1,8 @@
+pub mod Words
+pub mod Names
+pub mod Output
+pub mod Texts
+pub mod Code
+pub mod Lines
+pub mod Ends
+pub mod Parts

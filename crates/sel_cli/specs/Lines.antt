@@ -1,0 +1,51 @@
+-- The line that tells a status.
+use Rattle.std.specs.Prelude.{ℕ, List, [], ◌++◌, codes, decimal, ◌==◌, if◌then◌else◌}
+use Rattle.sel_forest.specs.Limits.{token, unknown_operator, arity, number_large, too_deep, too_many_nodes, too_many_trees}
+use Rattle.sel_grammar.specs.Limits.{unbuilt}
+use Rattle.sel_grammar.specs.declared.refusal.GrammarFault.{GrammarFault}
+use Rattle.sel_forest.specs.declared.refusal.ForestFault.{ForestFault}
+use Rattle.sel_cli.specs.declared.status.Status.{Status}
+use Rattle.sel_cli.specs.declared.status.Status.TheVariants.{Done, Usage, ReadFault, TooBig, BadGrammar, BadForest, WriteFault, NoMemory, Uncovered}
+
+-- the name of a kind of fault of a grammar's text
+abbrev pub grammar_kind_name : ℕ → List ℕ
+grammar_kind_name kind = if kind == unbuilt then codes "Unbuilt" else codes "Unknown"
+
+-- the name of a kind of fault of a forest's text
+abbrev pub forest_kind_name : ℕ → List ℕ
+forest_kind_name kind =
+    if kind == token then codes "Token" else (
+    if kind == unknown_operator then codes "UnknownOperator" else (
+    if kind == arity then codes "Arity" else (
+    if kind == number_large then codes "NumberLarge" else (
+    if kind == too_deep then codes "TooDeep" else (
+    if kind == too_many_nodes then codes "TooManyNodes" else (
+    if kind == too_many_trees then codes "TooManyTrees" else codes "Unknown"))))))
+
+-- :LINE:COLUMN
+abbrev pub place_text : ℕ → ℕ → List ℕ
+place_text line column = codes ":" ++ (decimal line ++ (codes ":" ++ decimal column))
+
+-- KIND WORD
+abbrev pub kind_text : ℕ → List ℕ → List ℕ
+kind_text kind word = decimal kind ++ (codes " " ++ (word ++ codes "\n"))
+
+-- where a fault of the grammar's text of this name stands, and what it is
+abbrev pub grammar_fault_line : List ℕ → GrammarFault → List ℕ
+grammar_fault_line name fault = name ++ (place_text fault.line fault.column ++ (codes ": grammar fault " ++ kind_text fault.kind (grammar_kind_name fault.kind)))
+
+-- the same of a forest's text
+abbrev pub forest_fault_line : List ℕ → ForestFault → List ℕ
+forest_fault_line name fault = name ++ (place_text fault.line fault.column ++ (codes ": forest fault " ++ kind_text fault.kind (forest_kind_name fault.kind)))
+
+-- the line of a status that speaks of the text of this name
+abbrev pub status_line : List ℕ → Status → List ℕ
+status_line name Done = []
+status_line name Uncovered = []
+status_line name Usage = codes "usage: sel MODE GRAMMAR [FOREST] [OPTIONS]\n"
+status_line name ReadFault = codes "cannot read " ++ (name ++ codes "\n")
+status_line name TooBig = name ++ (codes " is too big" ++ codes "\n")
+status_line name (BadGrammar fault) = grammar_fault_line name fault
+status_line name (BadForest fault) = forest_fault_line name fault
+status_line name WriteFault = codes "write fault\n"
+status_line name NoMemory = codes "no memory\n"

@@ -1,0 +1,141 @@
+// The line that tells a status.
+ghost use Rattle.std.specs.Prelude.{◌≡◌, ◌≤◌, ◌++◌, List, ℕ, codes, OnOk};
+ghost use Rattle.std.specs.Io.KnownBytes.{append_known};
+ghost use Rattle.sel_cli.specs.Ends.{IsFrontOf};
+ghost use Rattle.sel_cli.specs.Lines.{status_line, grammar_fault_line, forest_fault_line, place_text, kind_text, grammar_kind_name, forest_kind_name};
+
+use crate::status::Status;
+use crate::text::{put, put_number};
+use sel_base::{NoMemory, Sink, write_all_of};
+use sel_forest::{ForestFault, limits as forest_limits};
+use sel_grammar::{GrammarFault, limits as grammar_limits};
+use std::alloc::Global;
+
+fn grammar_kind_name(kind: u8) -> &'static [u8]
+    ensures { result.now ≡ grammar_kind_name kind }
+{
+    if kind == grammar_limits::UNBUILT {
+        b"Unbuilt"
+    } else {
+        b"Unknown"
+    }
+}
+
+fn forest_kind_name(kind: u8) -> &'static [u8]
+    ensures { result.now ≡ forest_kind_name kind }
+{
+    if kind == forest_limits::TOKEN {
+        b"Token"
+    } else if kind == forest_limits::UNKNOWN_OPERATOR {
+        b"UnknownOperator"
+    } else if kind == forest_limits::ARITY {
+        b"Arity"
+    } else if kind == forest_limits::NUMBER_LARGE {
+        b"NumberLarge"
+    } else if kind == forest_limits::TOO_DEEP {
+        b"TooDeep"
+    } else if kind == forest_limits::TOO_MANY_NODES {
+        b"TooManyNodes"
+    } else if kind == forest_limits::TOO_MANY_TREES {
+        b"TooManyTrees"
+    } else {
+        b"Unknown"
+    }
+}
+
+fn put_place(text: &mut Vec<u8>, line: u32, column: u32) -> Result<(), NoMemory>
+    ensures { OnOk result (text.new.items ≡ text.old.items ++ place_text line column) }
+{
+    put(text, b":")?;
+    put_number(text, line as u64)?;
+    put(text, b":")?;
+    put_number(text, column as u64)?;
+    Ok(())
+}
+
+fn put_kind(text: &mut Vec<u8>, kind: u8, word: &[u8]) -> Result<(), NoMemory>
+    ensures { OnOk result (text.new.items ≡ text.old.items ++ kind_text kind word.now) }
+{
+    put_number(text, kind as u64)?;
+    put(text, b" ")?;
+    put(text, word)?;
+    put(text, b"\n")?;
+    Ok(())
+}
+
+fn put_grammar_fault(text: &mut Vec<u8>, name: &[u8], fault: GrammarFault) -> Result<(), NoMemory>
+    ensures { OnOk result (text.new.items ≡ text.old.items ++ grammar_fault_line name.now fault) }
+{
+    put(text, name)?;
+    put_place(text, fault.line, fault.column)?;
+    put(text, b": grammar fault ")?;
+    put_kind(text, fault.kind, grammar_kind_name(fault.kind))?;
+    Ok(())
+}
+
+fn put_forest_fault(text: &mut Vec<u8>, name: &[u8], fault: ForestFault) -> Result<(), NoMemory>
+    ensures { OnOk result (text.new.items ≡ text.old.items ++ forest_fault_line name.now fault) }
+{
+    put(text, name)?;
+    put_place(text, fault.line, fault.column)?;
+    put(text, b": forest fault ")?;
+    put_kind(text, fault.kind, forest_kind_name(fault.kind))?;
+    Ok(())
+}
+
+fn put_three(text: &mut Vec<u8>, first: &[u8], second: &[u8], third: &[u8]) -> Result<(), NoMemory>
+    ensures { OnOk result (text.new.items ≡ text.old.items ++ (first.now ++ (second.now ++ third.now))) }
+{
+    put(text, first)?;
+    put(text, second)?;
+    put(text, third)?;
+    Ok(())
+}
+
+fn put_line(text: &mut Vec<u8>, name: &[u8], status: Status) -> Result<(), NoMemory>
+    ensures { OnOk result (text.new.items ≡ text.old.items ++ status_line name.now status) }
+{
+    match status {
+        Status::Done | Status::Uncovered => Ok(()),
+        Status::Usage => {
+            put(text, b"usage: sel MODE GRAMMAR [FOREST] [OPTIONS]\n")?;
+            Ok(())
+        }
+        Status::ReadFault => {
+            put_three(text, b"cannot read ", name, b"\n")?;
+            Ok(())
+        }
+        Status::TooBig => {
+            put_three(text, name, b" is too big", b"\n")?;
+            Ok(())
+        }
+        Status::BadGrammar(fault) => {
+            put_grammar_fault(text, name, fault)?;
+            Ok(())
+        }
+        Status::BadForest(fault) => {
+            put_forest_fault(text, name, fault)?;
+            Ok(())
+        }
+        Status::WriteFault => {
+            put(text, b"write fault\n")?;
+            Ok(())
+        }
+        Status::NoMemory => {
+            put(text, b"no memory\n")?;
+            Ok(())
+        }
+    }
+}
+
+/// Puts the status's line. A fault there changes nothing.
+pub fn tell<E: Sink>(alloc: Global, name: &str, status: Status, err: &mut E)
+    ensures line { (line : List ℕ) × IsFrontOf line (status_line name.now status)
+        × (E.taken err.new ≡ append_known (E.taken err.old) line) }
+    ensures later { E.faults err.old ≤ E.faults err.new }
+{
+    let mut text = Vec::new(alloc);
+    if put_line(&mut text, name.as_bytes(), status).is_ok() {
+        let _ = write_all_of(err, &text);
+    }
+}

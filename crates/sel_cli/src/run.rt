@@ -1,0 +1,167 @@
+// The top call.
+ghost use Rattle.std.specs.Prelude.{◌≡◌, ◌≢◌, ◌≤◌, ◌⊎◌, [], List, ℕ, Some, map, string_bytes, false};
+ghost use Rattle.std.specs.Io.KnownBytes.{append_known};
+ghost use Rattle.sel_base.specs.Causes.{Rose};
+ghost use Rattle.sel_grammar.specs.Limits.{IsWithinLimits};
+ghost use Rattle.sel_grammar.specs.Chains.{HasNoFreeCycle};
+ghost use Rattle.sel_grammar.specs.declared.grammar.Grammar.{Grammar as AnyGrammar};
+ghost use Rattle.sel_forest.specs.Valid.{IsValidForest};
+ghost use Rattle.sel_forest.specs.declared.forest.Forest.{Forest as AnyForest};
+ghost use Rattle.sel_cli.specs.declared.status.Status.{Status as AnyStatus};
+ghost use Rattle.sel_cli.specs.Words.{command};
+ghost use Rattle.sel_cli.specs.Names.{names_of};
+ghost use Rattle.sel_cli.specs.Texts.{IsTold, AcceptsForest};
+ghost use Rattle.sel_cli.specs.Ends.{EndsFor, Ending, Decides, IsExcused, IsAnswered, IsFrontOf};
+ghost use Rattle.sel_cli.specs.Parts.{AnswersFor};
+ghost use Rattle.sel_cli.specs.Lines.{status_line};
+
+use crate::answers::answer_forest;
+use crate::lines::tell;
+use crate::report::Report;
+use crate::status::Status;
+use crate::texts::{accept_forest, accept_grammar};
+use crate::words::{Command, read_words};
+use sel_base::{Gate, Shelf, Sink, SinkFault, write_all_of};
+use sel_forest::Forest;
+use sel_grammar::Grammar;
+use std::alloc::Global;
+use std::marker::Sync;
+use std::thread::Threads;
+
+// How a run ended, and the text of which its status speaks.
+#[derive(Clone, Copy)]
+struct Ended<'a> {
+    status: Status,
+    name: &'a str,
+}
+
+fn answer<K: Sink, G: Gate>(
+    alloc: Global,
+    grammar: &Grammar,
+    forest: &Forest,
+    out: &mut K,
+    gate: &G,
+) -> Status
+    requires limits { IsWithinLimits grammar.now }
+    requires free { HasNoFreeCycle grammar.now }
+    requires valid { IsValidForest grammar.now forest.now }
+    ensures ends { (bytes : List ℕ) × AnswersFor grammar.now forest.now (K.faults out.old) (K.faults out.new) bytes result
+        × (K.taken out.new ≡ append_known (K.taken out.old) bytes) }
+    ensures later { K.faults out.old ≤ K.faults out.new }
+{
+    let Ok(answers) = answer_forest(alloc, grammar, forest, gate) else {
+        return Status::NoMemory;
+    };
+    match write_all_of(out, &answers.text) {
+        Ok(()) => {
+            if answers.covered {
+                Status::Done
+            } else {
+                Status::Uncovered
+            }
+        }
+        Err(stop) => match stop.cause {
+            SinkFault::Failed => Status::WriteFault,
+            SinkFault::NoMemory => Status::NoMemory,
+        },
+    }
+}
+
+fn cover<'a, S: Shelf, K: Sink, G: Gate>(
+    alloc: Global,
+    command: Command<'a>,
+    shelf: &mut S,
+    out: &mut K,
+    gate: &G,
+) -> Ended<'a>
+    ensures ends { (bytes : List ℕ)
+        × EndsFor (record { wanted = Some (names_of command.entry); held = S.held shelf.old })
+        (record { before = S.faults shelf.old; after = S.faults shelf.new; last = S.last shelf.new })
+        (K.faults out.old) (K.faults out.new) result.name.now bytes result.status
+        × (K.taken out.new ≡ append_known (K.taken out.old) bytes) }
+    ensures unchanged { S.held shelf.new ≡ S.held shelf.old }
+    ensures later { S.faults shelf.old ≤ S.faults shelf.new }
+    ensures out_later { K.faults out.old ≤ K.faults out.new }
+{
+    let grammar = match accept_grammar(alloc, shelf, command) {
+        Ok(grammar) => grammar,
+        Err(status) => {
+            return Ended {
+                status,
+                name: command.grammar,
+            };
+        }
+    };
+    let forest = match accept_forest(alloc, shelf, command, &grammar) {
+        Ok(forest) => forest,
+        Err(status) => {
+            return Ended {
+                status,
+                name: command.forest,
+            };
+        }
+    };
+    Ended {
+        status: answer(alloc, &grammar, &forest, out, gate),
+        name: command.forest,
+    }
+}
+
+fn obey<'a, S: Shelf, K: Sink, G: Gate>(
+    alloc: Global,
+    words: &'a [String],
+    shelf: &mut S,
+    out: &mut K,
+    gate: &G,
+) -> Ended<'a>
+    ensures ends { (bytes : List ℕ)
+        × EndsFor (record { wanted = command (map string_bytes words.now); held = S.held shelf.old })
+        (record { before = S.faults shelf.old; after = S.faults shelf.new; last = S.last shelf.new })
+        (K.faults out.old) (K.faults out.new) result.name.now bytes result.status
+        × (K.taken out.new ≡ append_known (K.taken out.old) bytes) }
+    ensures unchanged { S.held shelf.new ≡ S.held shelf.old }
+    ensures later { S.faults shelf.old ≤ S.faults shelf.new }
+    ensures out_later { K.faults out.old ≤ K.faults out.new }
+{
+    match read_words(words) {
+        Some(command) => cover(alloc, command, shelf, out, gate),
+        None => Ended {
+            status: Status::Usage,
+            name: "",
+        },
+    }
+}
+
+/// Does what the words ask for (`cover GRAMMAR FOREST`, without the program's name): reads the two
+/// texts from the shelf, writes the cheapest cover of each tree to `out`, and says how it ended. The
+/// status's line goes to `err`.
+pub fn run<S: Shelf, K: Sink, E: Sink, G: Gate, Rt: Threads + Sync>(
+    _rt: &Rt,
+    alloc: Global,
+    words: &[String],
+    shelf: &mut S,
+    out: &mut K,
+    err: &mut E,
+    gate: &G,
+) -> (Status, Report)
+    // Each status comes for its cause, with the bytes that it wrote and a front of its line.
+    ensures ends { Ending (record { wanted = command (map string_bytes words.now); held = S.held shelf.old })
+        (record { before = S.faults shelf.old; after = S.faults shelf.new; last = S.last shelf.new })
+        (K.faults out.old) (K.faults out.new) (K.taken out.old) (K.taken out.new) (E.taken err.old) (E.taken err.new) result.0 }
+    // What the words and told texts decide comes, but for want of memory and faults of the outside.
+    ensures exactly { (status : AnyStatus) → Decides (record { wanted = command (map string_bytes words.now); held = S.held shelf.old }) status
+        → (result.0 ≡ status) ⊎ IsExcused result.0 }
+    // Where the outside has no fault, accepted texts are answered to the end.
+    ensures complete { (grammar : AnyGrammar) (forest : AnyForest)
+        → AcceptsForest IsTold (record { wanted = command (map string_bytes words.now); held = S.held shelf.old }) grammar forest
+        → ¬ Rose (S.faults shelf.old) (S.faults shelf.new) → ¬ Rose (K.faults out.old) (K.faults out.new)
+        → (result.0 ≡ Status.NoMemory) ⊎ IsAnswered grammar forest (K.taken out.old) (K.taken out.new) result.0 }
+    // Nothing is reported yet.
+    ensures report { result.1 ≡ record { evaluated = 0; plain_nodes = 0; row_full = false; used_up = false } }
+    ensures unchanged { S.held shelf.new ≡ S.held shelf.old }
+    ensures later { (S.faults shelf.old ≤ S.faults shelf.new) × (K.faults out.old ≤ K.faults out.new) × (E.faults err.old ≤ E.faults err.new) }
+{
+    let ended = obey(alloc, words, shelf, out, gate);
+    tell(alloc, ended.name, ended.status, err);
+    (ended.status, Report::EMPTY)
+}

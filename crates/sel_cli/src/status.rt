@@ -1,0 +1,45 @@
+// How a run ends.
+ghost use Rattle.std.specs.Prelude.{◌≡◌};
+ghost use Rattle.sel_cli.specs.Code.{code_of};
+
+use sel_forest::ForestFault;
+use sel_grammar::GrammarFault;
+
+/// How a run ended.
+#[derive(Clone, Copy, Debug, PartialEq, Eq)]
+pub enum Status {
+    /// All was read and written, and every tree is covered.
+    Done,
+    /// The words are no command.
+    Usage,
+    /// A text could not be read.
+    ReadFault,
+    /// A text is longer than its limit.
+    TooBig,
+    BadGrammar(GrammarFault),
+    BadForest(ForestFault),
+    /// A write failed.
+    WriteFault,
+    NoMemory,
+    /// All was written, and some tree has no cover.
+    Uncovered,
+}
+
+impl Status {
+    /// The program's exit status.
+    pub fn code(&self) -> u8
+        ensures { result ≡ code_of self.now }
+    {
+        match self {
+            Status::Done => 0,
+            Status::Usage => 1,
+            Status::ReadFault => 2,
+            Status::TooBig => 3,
+            Status::BadGrammar(_) => 4,
+            Status::BadForest(_) => 5,
+            Status::WriteFault => 6,
+            Status::NoMemory => 7,
+            Status::Uncovered => 8,
+        }
+    }
+}

@@ -1,0 +1,95 @@
+// The two texts, read and accepted.
+ghost use Rattle.std.specs.Prelude.{◌≡◌, ◌≤◌, Some, length, IfOk, IfErr};
+ghost use Rattle.sel_grammar.specs.Limits.{IsWithinLimits};
+ghost use Rattle.sel_grammar.specs.Chains.{HasNoFreeCycle};
+ghost use Rattle.sel_forest.specs.Valid.{IsValidForest};
+ghost use Rattle.sel_cli.specs.Names.{names_of};
+ghost use Rattle.sel_cli.specs.Texts.{MayBe, AcceptsGrammar, AcceptsForest};
+ghost use Rattle.sel_cli.specs.Ends.{StopsFor};
+ghost use Rattle.sel_cli.specs.Parts.{FetchesFor};
+
+use crate::status::Status;
+use crate::words::Command;
+use sel_base::{Shelf, ShelfFault};
+use sel_forest::{Forest, ForestRefusal, read_forest};
+use sel_grammar::{Grammar, GrammarRefusal, read_grammar};
+use std::alloc::Global;
+
+/// The greatest length of a grammar's text, in bytes.
+const GRAMMAR_LIMIT: usize = 16_777_216;
+
+/// The greatest length of a forest's text, in bytes.
+const FOREST_LIMIT: usize = 67_108_864;
+
+fn fetch<S: Shelf>(
+    alloc: Global,
+    shelf: &mut S,
+    name: &str,
+    limit: usize,
+) -> Result<Vec<u8>, Status>
+    ensures text { IfOk result (λ text. MayBe (S.held shelf.old name.now) text.items) }
+    ensures within { IfOk result (λ text. length text.items ≤ limit) }
+    ensures refused { IfErr result (FetchesFor (S.held shelf.old name.now)
+        (record { before = S.faults shelf.old; after = S.faults shelf.new; last = S.last shelf.new }) name.now limit) }
+    ensures unchanged { S.held shelf.new ≡ S.held shelf.old }
+    ensures later { S.faults shelf.old ≤ S.faults shelf.new }
+{
+    match shelf.read(alloc, name, limit) {
+        Ok(text) => Ok(text),
+        Err(ShelfFault::Failed) => Err(Status::ReadFault),
+        Err(ShelfFault::TooBig) => Err(Status::TooBig),
+        Err(ShelfFault::NoMemory) => Err(Status::NoMemory),
+    }
+}
+
+/// The grammar that the text of the first name spells.
+pub fn accept_grammar<S: Shelf>(
+    alloc: Global,
+    shelf: &mut S,
+    command: Command<'_>,
+) -> Result<Grammar, Status>
+    ensures accepted { IfOk result (AcceptsGrammar MayBe (record { wanted = Some (names_of command.entry); held = S.held shelf.old }) (names_of command.entry)) }
+    ensures limits { IfOk result (λ grammar. IsWithinLimits grammar) }
+    ensures free { IfOk result (λ grammar. HasNoFreeCycle grammar) }
+    ensures refused { IfErr result (StopsFor (record { wanted = Some (names_of command.entry); held = S.held shelf.old })
+        (record { before = S.faults shelf.old; after = S.faults shelf.new; last = S.last shelf.new }) command.entry.grammar.now) }
+    ensures unchanged { S.held shelf.new ≡ S.held shelf.old }
+    ensures later { S.faults shelf.old ≤ S.faults shelf.new }
+{
+    let text = match fetch(alloc, shelf, command.grammar, GRAMMAR_LIMIT) {
+        Ok(text) => text,
+        Err(status) => return Err(status),
+    };
+    match read_grammar(alloc, &text) {
+        Ok(grammar) => Ok(grammar),
+        Err(GrammarRefusal::Fault(fault)) => Err(Status::BadGrammar(fault)),
+        Err(GrammarRefusal::NoMemory) => Err(Status::NoMemory),
+    }
+}
+
+/// The forest that the text of the second name spells under the accepted grammar.
+pub fn accept_forest<S: Shelf>(
+    alloc: Global,
+    shelf: &mut S,
+    command: Command<'_>,
+    grammar: &Grammar,
+) -> Result<Forest, Status>
+    requires grammar { AcceptsGrammar MayBe (record { wanted = Some (names_of command); held = S.held shelf.old }) (names_of command) grammar.now }
+    requires limits { IsWithinLimits grammar.now }
+    ensures accepted { IfOk result (AcceptsForest MayBe (record { wanted = Some (names_of command.entry); held = S.held shelf.old }) grammar.now) }
+    ensures valid { IfOk result (λ forest. IsValidForest grammar.now forest) }
+    ensures refused { IfErr result (StopsFor (record { wanted = Some (names_of command.entry); held = S.held shelf.old })
+        (record { before = S.faults shelf.old; after = S.faults shelf.new; last = S.last shelf.new }) command.entry.forest.now) }
+    ensures unchanged { S.held shelf.new ≡ S.held shelf.old }
+    ensures later { S.faults shelf.old ≤ S.faults shelf.new }
+{
+    let text = match fetch(alloc, shelf, command.forest, FOREST_LIMIT) {
+        Ok(text) => text,
+        Err(status) => return Err(status),
+    };
+    match read_forest(alloc, grammar, &text) {
+        Ok(forest) => Ok(forest),
+        Err(ForestRefusal::Fault(fault)) => Err(Status::BadForest(fault)),
+        Err(ForestRefusal::NoMemory) => Err(Status::NoMemory),
+    }
+}
