@@ -2,6 +2,7 @@
 use Rattle.std.proofs.Common.{◌≡◌, ℕ, ◌+◌, ◌*◌, ◌<◌, ◌≤◌, ◌^◌, ◌⊎◌, inl, inr, Bool, true, false, if◌then◌else◌, List, length, refl, ap, sym, ◌∙◌, subst, arith, Option, Some, None, slice_get, get_or}
 use Rattle.std.specs.Prelude.{slice_set}
 use Rattle.std.proofs.lemmas.List.Sums.{sum_by-set}
+use Rattle.std.specs.Option.{option_and_then}
 use Rattle.sel_grammar.specs.declared.grammar.Grammar.{Grammar}
 use Rattle.sel_grammar.specs.declared.grammar.Rule.{Rule}
 use Rattle.sel_grammar.specs.declared.grammar.Pattern.{Pattern, Leaf, Nullary, Unary', Binary', end_of-Pattern, more_of-Pattern}
@@ -13,7 +14,7 @@ use Rattle.sel_forest.specs.declared.forest.Node.{Node}
 use Rattle.sel_plain.specs.declared.entry.Entry.{Entry}
 use Rattle.sel_plain.specs.CostBounds.{IsUpTo, IsNoDearer, cost_place, per_tree}
 use Rattle.sel_plain.specs.Rows.{Row, entry_at, cost_of}
-use Rattle.sel_plain.specs.Offers.{offered, offered_at, offered_by}
+use Rattle.sel_plain.specs.Offers.{offered, offered_by}
 use Rattle.sel_plain.proofs.Patterns.{operator_kind}
 use Rattle.sel_forest.proofs.Matching.{some_same}
 use Rattle.sel_plain.proofs.Entries.{same_or_other, entry_at-get_or, entry_at-set_same, entry_at-set_other}
@@ -122,8 +123,8 @@ module _ (nodes : List Node) (rows : List Row) (row : Row) (i : ℕ) (k : Cost) 
   by_is (Binary' o s (more_of-Pattern p end_of-Pattern) s' (more_of-Pattern q end_of-Pattern)) h = inr (λ m e. cc, λ new. h)
 
   abbrev WithNode : Rule → Option Node → Type 0
-  WithNode rule o = ((m : ℕ) × (e : Entry) × (rule.pattern ≡ Leaf m) × (entry_at row m ≡ Some e) × (k ≡ e.cost) × ((new : Row) (f : Entry) → entry_at new m ≡ Some f → offered_at o rule nodes rows new i ≡ Some (f.cost)))
-      ⊎ (((m : ℕ) → rule.pattern ≡ Leaf m → ⊥) × ((new : Row) → offered_at o rule nodes rows new i ≡ Some k))
+  WithNode rule o = ((m : ℕ) × (e : Entry) × (rule.pattern ≡ Leaf m) × (entry_at row m ≡ Some e) × (k ≡ e.cost) × ((new : Row) (f : Entry) → entry_at new m ≡ Some f → option_and_then (λ (node : Node). if in_range rule.range node.attribute then offered_by rule.pattern nodes rows new i else None) o ≡ Some (f.cost)))
+      ⊎ (((m : ℕ) → rule.pattern ≡ Leaf m → ⊥) × ((new : Row) → option_and_then (λ (node : Node). if in_range rule.range node.attribute then offered_by rule.pattern nodes rows new i else None) o ≡ Some k))
 
   with_node : (rule : Rule) (node : Node) → in_range rule.range node.attribute ≡ true → ByIs rule.pattern → WithNode rule (Some node)
   with_node rule node q (inl (m, e, p, at, is, new)) = inl (m, e, p, at, is, λ row' f w. ap (λ b. if b then offered_by rule.pattern nodes rows row' i else None) q ∙ new row' f w)
@@ -136,7 +137,7 @@ module _ (nodes : List Node) (rows : List Row) (row : Row) (i : ℕ) (k : Cost) 
       tested node false q h = cc
       tested node true q h = with_node rule node q (by_is rule.pattern h)
 
-      go : (o : Option Node) → offered_at o rule nodes rows row i ≡ Some k → WithNode rule o
+      go : (o : Option Node) → option_and_then (λ (node : Node). if in_range rule.range node.attribute then offered_by rule.pattern nodes rows row i else None) o ≡ Some k → WithNode rule o
       go None h = cc
       go (Some node) h = tested node (in_range rule.range node.attribute) refl h
 

@@ -1,5 +1,6 @@
 -- A row that no rule betters, and whose entries are backed, is the best.
 use Rattle.std.proofs.Common.{◌≡◌, ℕ, zero, suc, ◌+◌, ◌-◌, ◌*◌, ◌<◌, ◌≤◌, ◌⊎◌, inl, inr, Bool, true, false, if◌then◌else◌, List, [], ◌∷◌, length, refl, ap, sym, ◌∙◌, subst, arith, Option, Some, None}
+use Rattle.std.specs.Option.{option_and_then}
 use Rattle.sel_forest.specs.Limits.{most_nodes}
 use Rattle.sel_grammar.specs.declared.grammar.Grammar.{Grammar}
 use Rattle.sel_grammar.specs.declared.grammar.Rule.{Rule}
@@ -21,7 +22,7 @@ use Rattle.sel_grammar.specs.Chains.{HasNoFreeCycle}
 use Rattle.sel_forest.specs.declared.forest.Node.{Node}
 use Rattle.sel_plain.specs.declared.entry.Entry.{Entry}
 use Rattle.sel_plain.specs.Rows.{Row, entry_at, cost_of}
-use Rattle.sel_plain.specs.Offers.{offered, offered_at, offered_by, kids_cost}
+use Rattle.sel_plain.specs.Offers.{offered, offered_by, kids_cost}
 use Rattle.sel_plain.specs.BestRows.{IsBestEntry, IsBestRow, AreBestRows}
 use Rattle.sel_forest.specs.Places.{IsRootAt}
 use Rattle.sel_plain.specs.Bettering.{IsNoLater, offer_entry, Withstands, KindWithstood, count_to, IsBacked, AllBacked, OperatorOffers}
@@ -42,7 +43,7 @@ offered_is : (nodes : List Node) (rows : List Row) (row : Row) (i : ℕ) (t : Pl
     → offered rule nodes rows row i ≡ (if in_range rule.range (attribute_of t) then offered_by rule.pattern nodes rows row i else None)
 offered_is nodes rows row i t rule root =
     let r = root_at nodes i t root in
-    ap (λ o. offered_at o rule nodes rows row i) (r.1).0 ∙ ap (λ x. if in_range rule.range x then offered_by rule.pattern nodes rows row i else None) (r.1).1
+    ap (λ o. option_and_then (λ (node : Node). if in_range rule.range node.attribute then offered_by rule.pattern nodes rows row i else None) o) (r.1).0 ∙ ap (λ x. if in_range rule.range x then offered_by rule.pattern nodes rows row i else None) (r.1).1
 
 by_operator : (p : Pattern) (nodes : List Node) (rows : List Row) (row : Row) (i : ℕ) → ((m : ℕ) → p ≡ Leaf m → ⊥) → offered_by p nodes rows row i ≡ kids_cost p nodes rows i
 by_operator (Leaf m) nodes rows row i h = absurd (h m refl)

@@ -5,7 +5,8 @@ use Rattle.std.proofs.Math.Seq.{take-length}
 use Rattle.std.specs.Option.{option_flatten}
 use Rattle.std.proofs.lemmas.List.{length-take, length-drop, take-append-le, drop-append-le}
 use Rattle.std.proofs.lemmas.Option.{slice_get_past}
-use Rattle.sel_plain.specs.Rows.{Row, rows_of, entry_at, row_at, row_or_none}
+use Rattle.std.specs.Option.{unwrap_or}
+use Rattle.sel_plain.specs.Rows.{Row, rows_of, entry_at, row_at}
 
 pub length-rows_of : (count width : ℕ) (xs : Row) → length (rows_of count width xs) ≡ count
 length-rows_of zero width xs = refl
@@ -50,7 +51,7 @@ entry_rows (suc count) width (suc at) n xs h k =
 pub entry_rows_past : (count width at n : ℕ) (xs : Row) → count ≤ at → entry_at (row_at (rows_of count width xs) at) n ≡ None
 entry_rows_past count width at n xs h =
     let l = length-rows_of count width xs in
-    ap (λ x. entry_at (row_or_none x) n) (slice_get_past (rows_of count width xs) at (omega arith))
+    ap (λ x. entry_at (unwrap_or x []) n) (slice_get_past (rows_of count width xs) at (omega arith))
 
 pub entry_rows_beside : (count width at n : ℕ) (xs : Row) → width ≤ n → entry_at (row_at (rows_of count width xs) at) n ≡ None
 entry_rows_beside zero width at n xs h = refl

@@ -1,6 +1,7 @@
 -- One turn of the loop that offers each rule of a kind to a row.
 use Rattle.std.proofs.Common.{◌≡◌, ℕ, ◌+◌, ◌<◌, ◌⊎◌, inl, inr, Bool, true, false, if◌then◌else◌, List, length, refl, ap, sym, ◌∙◌, subst, arith, Option, Some, None, slice_get, add-one}
 use Rattle.std.proofs.lemmas.List.{length-set}
+use Rattle.std.specs.Option.{option_and_then}
 use Rattle.sel_grammar.specs.declared.grammar.Grammar.{Grammar}
 use Rattle.sel_grammar.specs.declared.grammar.Rule.{Rule}
 use Rattle.sel_grammar.specs.declared.grammar.Pattern.{Pattern, Leaf, Nullary, Unary', Binary'}
@@ -12,7 +13,7 @@ use Rattle.sel_plain.specs.declared.kind.RuleKind.{RuleKind}
 use Rattle.sel_plain.specs.declared.kind.RuleKind.TheVariants.{Operator, Chain}
 use Rattle.sel_plain.specs.Kinds.{kind_of}
 use Rattle.sel_plain.specs.Rows.{Row, entry_at}
-use Rattle.sel_plain.specs.Offers.{offered, offered_at, offered_by}
+use Rattle.sel_plain.specs.Offers.{offered, offered_by}
 use Rattle.sel_plain.specs.Bettering.{Withstands, KindWithstood, IsBettered, Keeps, total_distance, KeepsBacked, offer_entry}
 use Rattle.sel_forest.proofs.Matching.{some_same}
 use Rattle.sel_plain.proofs.Betters.{AllBacked-bettered, Keeps-bettered, new_same, no_later_self, no_later_trans}
@@ -27,7 +28,7 @@ by_apart (Binary' op s p s' q) nodes rows row new i h = refl
 offered_apart : (rule : Rule) (nodes : List Node) (rows : List Row) (row new : Row) (i : ℕ) → kind_of rule.pattern ≡ Operator → offered rule nodes rows row i ≡ offered rule nodes rows new i
 offered_apart rule nodes rows row new i h = go (slice_get nodes i)
   where
-    go : (o : Option Node) → offered_at o rule nodes rows row i ≡ offered_at o rule nodes rows new i
+    go : (o : Option Node) → option_and_then (λ (node : Node). if in_range rule.range node.attribute then offered_by rule.pattern nodes rows row i else None) o ≡ option_and_then (λ (node : Node). if in_range rule.range node.attribute then offered_by rule.pattern nodes rows new i else None) o
     go None = refl
     go (Some node) = ap (λ x. if in_range rule.range node.attribute then x else None) (by_apart rule.pattern nodes rows row new i h)
 

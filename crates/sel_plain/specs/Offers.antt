@@ -28,10 +28,6 @@ abbrev pub offered_by : Pattern → List Node → List Row → Row → ℕ → O
 offered_by (Leaf n) nodes rows row i = cost_of (entry_at row n)
 offered_by p nodes rows row i = kids_cost p nodes rows i
 
-abbrev pub offered_at : Option Node → Rule → List Node → List Row → Row → ℕ → Option Cost
-offered_at None rule nodes rows row i = None
-offered_at (Some node) rule nodes rows row i = if in_range rule.range node.attribute then offered_by rule.pattern nodes rows row i else None
-
 -- what a rule's kids cost at the node at i, where it fits
 abbrev pub offered : Rule → List Node → List Row → Row → ℕ → Option Cost
-offered rule nodes rows row i = offered_at (slice_get nodes i) rule nodes rows row i
+offered rule nodes rows row i = option_and_then (λ node. if in_range rule.range node.attribute then offered_by rule.pattern nodes rows row i else None) (slice_get nodes i)

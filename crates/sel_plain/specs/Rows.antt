@@ -1,6 +1,6 @@
 -- Rows of entries, one for each node of a tree.
-use Rattle.std.specs.Prelude.{ℕ, zero, suc, Option, Some, None, List, [], ◌∷◌, slice_get, take, drop}
-use Rattle.std.specs.Option.{option_flatten}
+use Rattle.std.specs.Prelude.{ℕ, zero, suc, Option, List, [], ◌∷◌, slice_get, take, drop}
+use Rattle.std.specs.Option.{option_flatten, option_map, unwrap_or}
 use Rattle.sel_grammar.specs.Costs.{Cost}
 use Rattle.sel_plain.specs.declared.entry.Entry.{Entry}
 
@@ -23,13 +23,8 @@ abbrev pub entry_at : Row → ℕ → Option Entry
 entry_at row n = option_flatten (slice_get row n)
 
 abbrev pub cost_of : Option Entry → Option Cost
-cost_of None = None
-cost_of (Some e) = Some (e.cost)
+cost_of entry = option_map (λ e. e.cost) entry
 
 -- the row of a node
-abbrev pub row_or_none : Option Row → Row
-row_or_none None = []
-row_or_none (Some row) = row
-
 abbrev pub row_at : List Row → ℕ → Row
-row_at rows i = row_or_none (slice_get rows i)
+row_at rows i = unwrap_or (slice_get rows i) []

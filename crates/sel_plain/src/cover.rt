@@ -1,10 +1,7 @@
-ghost use Rattle.std.specs.Prelude.{◌≡◌, ◌++◌, ◌∷◌, [], ℕ, ◌<◌, length, slice_get, reverse, IfOk, Some};
-ghost use Rattle.std.specs.Option.{option_copied};
+ghost use Rattle.std.specs.Prelude.{◌≡◌, ◌∷◌, [], ℕ, length, IfOk};
 ghost use Rattle.sel_grammar.specs.declared.grammar.Rule.{Rule};
-ghost use Rattle.sel_grammar.specs.Fits.{rule_at};
 ghost use Rattle.sel_plain.specs.BestRows.{AreBestRows};
 ghost use Rattle.sel_plain.specs.Writing.{IsHalfWritten, HasRule, WritesRule};
-ghost use Rattle.sel_forest.specs.Places.{goals};
 ghost use Rattle.sel_plain.specs.Rows.{entry_at, row_at};
 
 use crate::entry::Entry;

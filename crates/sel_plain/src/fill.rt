@@ -1,4 +1,4 @@
-ghost use Rattle.std.specs.Prelude.{◌≡◌, ◌+◌, length, IfOk};
+ghost use Rattle.std.specs.Prelude.{◌+◌, length, IfOk};
 ghost use Rattle.sel_forest.specs.Limits.{most_nodes};
 ghost use Rattle.sel_grammar.specs.Chains.{HasNoFreeCycle};
 ghost use Rattle.sel_grammar.specs.Limits.{IsWithinLimits};

@@ -1,4 +1,4 @@
-ghost use Rattle.std.specs.Prelude.{◌≡◌, ◌<◌, length, slice_get, Some};
+ghost use Rattle.std.specs.Prelude.{◌≡◌};
 ghost use Rattle.sel_plain.specs.Rows.{entry_at, row_at, cost_of};
 ghost use Rattle.sel_plain.specs.Offers.{kids_cost, both_costs, offered, offered_by};
 
