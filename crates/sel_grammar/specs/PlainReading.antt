@@ -56,18 +56,21 @@ read_entry bytes =
 -- what stands behind the first kid
 abbrev pub read_kids_from : List ℕ → List ℕ → Read PlainKids
 read_kids_from first bytes = elim (behind (codes ",") bytes) [
-    None ↦ and_then (behind (codes ")") bytes) (λ rest. Some (One first, rest))
-  | Some rest ↦ and_then (read_name_before (codes ")") rest) (λ second. Some (Two first second.0, second.1)) ]
+  | None ↦ and_then (behind (codes ")") bytes) (λ rest. Some (One first, rest))
+  | Some rest ↦ and_then (read_name_before (codes ")") rest) (λ second. Some (Two first second.0, second.1))
+]
 
 abbrev pub read_kids : List ℕ → Read PlainKids
 read_kids bytes = elim (behind (codes "(") bytes) [
-    None ↦ Some (Absent, bytes)
-  | Some rest ↦ and_then (read_name rest) (λ first. read_kids_from first.0 first.1) ]
+  | None ↦ Some (Absent, bytes)
+  | Some rest ↦ and_then (read_name rest) (λ first. read_kids_from first.0 first.1)
+]
 
 abbrev pub read_cost : List ℕ → Read (Option (List ℕ))
 read_cost bytes = elim (behind (codes " ") bytes) [
-    None ↦ Some (None, bytes)
-  | Some rest ↦ and_then (read_integer greatest_cost rest) (λ number. Some (Some number.0, number.1)) ]
+  | None ↦ Some (None, bytes)
+  | Some rest ↦ and_then (read_integer greatest_cost rest) (λ number. Some (Some number.0, number.1))
+]
 
 abbrev pub read_rule : List ℕ → Read PlainRule
 read_rule bytes =
@@ -82,8 +85,9 @@ read_rule bytes =
 abbrev pub read_entries_to : ℕ → List ℕ → Read (List PlainEntry)
 read_entries_to zero bytes = None
 read_entries_to (suc n) bytes = elim (behind (codes " ") bytes) [
-    None ↦ Some ([], bytes)
-  | Some rest ↦ and_then (read_entry rest) (λ entry. and_then (read_entries_to n entry.1) (λ entries. Some (entry.0 ∷ entries.0, entries.1))) ]
+  | None ↦ Some ([], bytes)
+  | Some rest ↦ and_then (read_entry rest) (λ entry. and_then (read_entries_to n entry.1) (λ entries. Some (entry.0 ∷ entries.0, entries.1)))
+]
 
 unfoldable pub read_entries : List ℕ → Read (List PlainEntry)
 read_entries bytes = read_entries_to (suc (length bytes)) bytes
