@@ -1,11 +1,11 @@
 -- Each text spells a grammar of the plain form or has a fault.
-use Rattle.std.proofs.Common.{◌≡◌, ℕ, ◌≤◌, ◌<◌, List, Option, Some, None, Bool, true, false, length, refl, sym, ◌∙◌, arith, ◌⊎◌, inl, inr}
+use Rattle.std.proofs.Common.{◌≡◌, ℕ, ◌≤◌, List, Option, Some, None, Bool, true, false, length, refl, sym, ◌∙◌, arith, ◌⊎◌, inl, inr}
 use Rattle.std.specs.List.{list_all}
 use Rattle.sel_grammar.specs.declared.grammar.Grammar.{Grammar}
 use Rattle.sel_grammar.specs.declared.refusal.GrammarFault.{GrammarFault}
 use Rattle.sel_grammar.specs.declared.plain_text.PlainText.{PlainText}
 use Rattle.sel_grammar.specs.Limits.{most_operators, most_nonterminals, most_rules, unbuilt}
-use Rattle.sel_grammar.specs.PlainForm.{has_twice, is_lawful_rule, nonterminals_of, IsPlain, operator_names, grammar_of, SpellsGrammar, IsGrammarFault}
+use Rattle.sel_grammar.specs.PlainForm.{has_twice, is_lawful_rule, nonterminals_of, operator_names, grammar_of, SpellsGrammar, IsGrammarFault}
 use Rattle.sel_grammar.specs.PlainReading.{read_lines}
 use Rattle.sel_grammar.proofs.PlainGrammars.{no_lines, no_grammar, spells_grammar, checked}
 
@@ -48,8 +48,11 @@ fault_of bytes none = (record { kind = unbuilt; line = 1; column = 1 }, record {
 
 decided_lines : (bytes : List ℕ) (text : PlainText) → read_lines bytes ≡ Some text → Checks text ⊎ ¬ (Checks text) → ((g : Grammar) × SpellsGrammar bytes g) ⊎ ((f : GrammarFault) × IsGrammarFault bytes f)
 decided_lines bytes text h (inl k) =
-    inl (grammar_of text, spells_grammar bytes text (grammar_of text) h
-        (checked bytes text (nonterminals_of text) h (k.0, k.1.0, k.1.1.0, k.1.1.1.0) (k.1.1.1.1.1.0, k.1.1.1.1.1.1) refl k.1.1.1.1.0) refl)
+    inl (
+      grammar_of text,
+      spells_grammar bytes text (grammar_of text) h
+          (checked bytes text (nonterminals_of text) h (k.0, k.1.0, k.1.1.0, k.1.1.1.0) (k.1.1.1.1.1.0, k.1.1.1.1.1.1) refl k.1.1.1.1.0) refl,
+    )
 decided_lines bytes text h (inr k) =
     inr (fault_of bytes (no_grammar bytes text h (λ p. k (p.an_entry, (p.a_rule, (p.few_entries, (p.few_rules, (p.few_nonterminals, (p.apart, p.lawful)))))))))
 

@@ -1,5 +1,5 @@
 -- Digits, and words at the front of a text, as the code finds them.
-use Rattle.std.proofs.Common.{◌<◌, ◌≡◌, ℕ, suc, zero, ◌+◌, ◌*◌, ◌≤◌, List, [], ◌∷◌, length, refl, ap, arith, ◌-◌, take, drop, get_or, drop-cons, subst, Bool, true, false, cond, ◌&&◌, Option, Some, None}
+use Rattle.std.proofs.Common.{◌<◌, ◌≡◌, ℕ, suc, ◌+◌, ◌*◌, ◌≤◌, List, [], ◌∷◌, length, refl, arith, ◌-◌, take, drop, get_or, drop-cons, subst, Bool, true, false, cond, ◌&&◌, Option, Some, None}
 use Rattle.std.specs.Prelude.{nat_eq, MatchOption}
 use Rattle.std.specs.List.{prefix_len, list_all}
 use Rattle.std.specs.Char.{digit_value, is_ascii_digit}

@@ -1,16 +1,12 @@
 -- A worked text of the plain form and what it says, and a text that spells nothing.
-use Rattle.std.proofs.Common.{◌≡◌, ℕ, List, [], ◌∷◌, ◌++◌, refl, Some, None, inl, inr, arith, true, false}
+use Rattle.std.proofs.Common.{◌≡◌, ℕ, List, [], ◌∷◌, ◌++◌, refl, Some, None, inr, arith, true, false}
 use Rattle.std.specs.Prelude.{codes}
 use Rattle.sel_grammar.specs.declared.grammar.Grammar.{Grammar}
 use Rattle.sel_grammar.specs.declared.grammar.Rule.{Rule}
-use Rattle.sel_grammar.specs.declared.grammar.Operator.{Operator}
 use Rattle.sel_grammar.specs.declared.grammar.Pattern.{Pattern, Leaf, Nullary, Unary, Binary}
-use Rattle.sel_grammar.specs.declared.plain_text.PlainEntry.{PlainEntry}
-use Rattle.sel_grammar.specs.declared.plain_text.PlainKids.{PlainKids}
 use Rattle.sel_grammar.specs.declared.plain_text.PlainKids.TheVariants.{Absent, One, Two}
-use Rattle.sel_grammar.specs.declared.plain_text.PlainRule.{PlainRule}
 use Rattle.sel_grammar.specs.declared.plain_text.PlainText.{PlainText}
-use Rattle.sel_grammar.specs.PlainText.{SpellsLines, line_end}
+use Rattle.sel_grammar.specs.PlainText.{line_end}
 use Rattle.sel_grammar.specs.PlainForm.{SpellsGrammar, IsPlain, grammar_of}
 use Rattle.sel_grammar.specs.PlainReading.{read_lines, read_entries, read_rules}
 use Rattle.sel_grammar.proofs.PlainGrammars.{no_grammar}
@@ -49,8 +45,15 @@ says = refl
 
 is_plain : IsPlain text
 is_plain = record {
-  an_entry = omega arith; a_rule = omega arith; few_entries = omega arith; few_rules = omega arith; few_nonterminals = omega arith;
-  entries = refl; rules = refl; apart = refl; lawful = refl;
+  an_entry = omega arith;
+  a_rule = omega arith;
+  few_entries = omega arith;
+  few_rules = omega arith;
+  few_nonterminals = omega arith;
+  entries = refl;
+  rules = refl;
+  apart = refl;
+  lawful = refl;
 }
 
 pub spells : SpellsGrammar bytes grammar

@@ -1,13 +1,13 @@
 -- A text spells at most one grammar of the plain form, and what such a grammar keeps.
-use Rattle.std.proofs.Common.{◌≡◌, ℕ, suc, zero, ◌+◌, ◌≤◌, ◌<◌, List, [], ◌∷◌, ◌++◌, Option, Some, None, Bool, true, false, length, refl, ap, sym, ◌∙◌, subst, arith, ◌&&◌, ◌||◌, map, slice_get, ◌⊎◌, inl, inr, cond}
+use Rattle.std.proofs.Common.{◌≡◌, ℕ, suc, zero, ◌+◌, ◌≤◌, ◌<◌, List, [], ◌∷◌, ◌++◌, Some, None, Bool, true, false, length, refl, ap, sym, ◌∙◌, subst, arith, ◌||◌, map, slice_get}
 use Rattle.std.specs.Prelude.{bytes_eq, if◌then◌else◌, flat_map, nat_lt}
-use Rattle.std.specs.List.{list_all, list_any}
+use Rattle.std.specs.List.{list_all}
 use Rattle.std.proofs.lemmas.List.{length-map}
 use Rattle.std.proofs.lemmas.Slice.Eq.{bytes_eq-Decides}
 use Rattle.sel_grammar.specs.declared.grammar.Grammar.{Grammar}
 use Rattle.sel_grammar.specs.declared.grammar.Operator.{Operator}
 use Rattle.sel_grammar.specs.declared.grammar.Rule.{Rule}
-use Rattle.sel_grammar.specs.declared.grammar.Pattern.{Pattern, Leaf}
+use Rattle.sel_grammar.specs.declared.grammar.Pattern.{Leaf}
 use Rattle.sel_grammar.specs.declared.plain_text.PlainEntry.{PlainEntry}
 use Rattle.sel_grammar.specs.declared.plain_text.PlainKids.{PlainKids}
 use Rattle.sel_grammar.specs.declared.plain_text.PlainKids.TheVariants.{Absent, One, Two}
@@ -15,10 +15,9 @@ use Rattle.sel_grammar.specs.declared.plain_text.PlainRule.{PlainRule}
 use Rattle.sel_grammar.specs.declared.plain_text.PlainText.{PlainText}
 use Rattle.sel_grammar.specs.Chains.{IsFreeStep, FreeWalk, last, step, HasNoFreeCycle}
 use Rattle.sel_grammar.specs.Limits.{most_operators, most_nonterminals, most_rules, IsArity, IsWithinLimits}
-use Rattle.sel_grammar.specs.PlainText.{SpellsLines, kid_names}
+use Rattle.sel_grammar.specs.PlainText.{kid_names}
 use Rattle.sel_grammar.specs.PlainForm.{is_among, has_twice, is_lawful_rule, named_by, with_new, nonterminals_of, first_use, IsPlain, number_of, operator_of, pattern_of, rule_of, rules_of, start_of, operator_names, grammar_of, SpellsGrammar}
 use Rattle.sel_grammar.specs.PlainReading.{read_lines}
-use Rattle.sel_grammar.proofs.PlainNames.{both}
 use Rattle.sel_grammar.proofs.PlainTexts.{lines_found, lines_read}
 use Rattle.sel_grammar.proofs.PlainNumbers.{is_among_number}
 
@@ -186,8 +185,8 @@ no_leaf operator nonterminals (Two a b) m h = cc
 pub no_free_cycle : (bytes : List ℕ) (g : Grammar) → SpellsGrammar bytes g → HasNoFreeCycle g
 no_free_cycle bytes g s =
     subst HasNoFreeCycle (sym s.says) (HasNoFreeCycle-plain (grammar_of s.text) (λ k r m h e.
-        said_by (operator_names s.text) (nonterminals_of s.text) 3 s.text.rules k r h (λ at rule g f.
-            no_leaf (number_of (operator_names s.text) rule.operator) (nonterminals_of s.text) rule.kids m (ap (λ x. x.pattern) (sym f) ∙ e))))
+    said_by (operator_names s.text) (nonterminals_of s.text) 3 s.text.rules k r h (λ at rule g f.
+    no_leaf (number_of (operator_names s.text) rule.operator) (nonterminals_of s.text) rule.kids m (ap (λ x. x.pattern) (sym f) ∙ e))))
 
 -- what the checks find
 pub checked : (bytes : List ℕ) (text : PlainText) (names : List (List ℕ)) → read_lines bytes ≡ Some text
@@ -197,7 +196,13 @@ pub checked : (bytes : List ℕ) (text : PlainText) (names : List (List ℕ)) �
 checked bytes text names h few lawful e small =
     let found = lines_found bytes text h in
     record {
-      an_entry = few.0; a_rule = few.1; few_entries = few.2; few_rules = few.3;
+      an_entry = few.0;
+      a_rule = few.1;
+      few_entries = few.2;
+      few_rules = few.3;
       few_nonterminals = subst (λ x. length x ≤ most_nonterminals) e small;
-      entries = found.entries; rules = found.rules; apart = lawful.0; lawful = lawful.1;
+      entries = found.entries;
+      rules = found.rules;
+      apart = lawful.0;
+      lawful = lawful.1;
     }

@@ -1,5 +1,5 @@
 -- What is read of entries and rules is what the bytes spell, and what they spell is read.
-use Rattle.std.proofs.Common.{◌≡◌, ℕ, suc, zero, ◌+◌, ◌≤◌, ◌<◌, List, [], ◌∷◌, ◌++◌, Option, Some, None, Bool, true, false, length, refl, ap, sym, ◌∙◌, subst, arith, ◌&&◌, append_assoc, append-nil}
+use Rattle.std.proofs.Common.{◌≡◌, ℕ, List, [], ◌∷◌, ◌++◌, Option, Some, None, Bool, true, refl, ap, sym, ◌∙◌, subst, ◌&&◌, append_assoc}
 use Rattle.std.specs.Prelude.{codes}
 use Rattle.std.specs.List.{list_all}
 use Rattle.std.specs.Char.{is_ascii_digit}
@@ -8,9 +8,9 @@ use Rattle.sel_grammar.specs.declared.plain_text.PlainKids.{PlainKids}
 use Rattle.sel_grammar.specs.declared.plain_text.PlainKids.TheVariants.{Absent, One, Two}
 use Rattle.sel_grammar.specs.declared.plain_text.PlainRule.{PlainRule}
 use Rattle.sel_grammar.specs.Limits.{greatest_external, greatest_cost}
-use Rattle.sel_grammar.specs.PlainText.{is_name_byte, is_name, is_integer_to, spelled_entry, spelled_kids, spelled_cost, spelled_rule, kid_names, is_plain_cost, is_plain_entry, is_plain_rule}
-use Rattle.sel_grammar.specs.PlainReading.{Read, and_then, behind, read_name, read_integer, read_name_before, read_entry, read_kids, read_kids_from, read_cost, read_rule}
-use Rattle.sel_grammar.proofs.PlainNames.{Stops, both, and_both, stepped, Found, itself, behind_word, word_front, name_found, name_read, integer_found, integer_read, name_before_found, name_before_read}
+use Rattle.sel_grammar.specs.PlainText.{is_name_byte, is_name, is_integer_to, spelled_kids, spelled_cost, spelled_rule, kid_names, is_plain_cost, is_plain_entry, is_plain_rule}
+use Rattle.sel_grammar.specs.PlainReading.{behind, read_name, read_integer, read_name_before, read_entry, read_kids, read_kids_from, read_cost, read_rule}
+use Rattle.sel_grammar.proofs.PlainNames.{Stops, both, and_both, stepped, Found, word_front, name_found, name_read, integer_found, integer_read, name_before_found, name_before_read}
 
 -- a step that goes one way where the word isn't there, and another way where it is
 pub by_word : {X P : Type 0} (o : Option (List ℕ)) (absent : Option X) (some : List ℕ → Option X) (y : X)
@@ -53,27 +53,27 @@ kids_from_found : (first bytes : List ℕ) (r : PlainKids × List ℕ) → is_na
 kids_from_found first bytes r n h =
     by_word (behind (codes ",") bytes) _ _ r h
     (λ e k. stepped (behind (codes ")") bytes) _ r k (λ rest f s.
-        let same : (One first, rest) ≡ r = cc in
-        let w : bytes ≡ codes ")" ++ rest = word_front (codes ")") bytes rest f in
-        subst (λ r. (are_names r.0 ≡ true) × (codes "(" ++ first ++ bytes ≡ spelled_kids r.0 ++ r.1)) same (and_both (is_name first) true n refl, (ap (λ x. codes "(" ++ first ++ x) w ∙ sym (append_assoc (codes "(" ++ first) (codes ")") rest)))))
+    let same : (One first, rest) ≡ r = cc in
+    let w : bytes ≡ codes ")" ++ rest = word_front (codes ")") bytes rest f in
+    subst (λ r. (are_names r.0 ≡ true) × (codes "(" ++ first ++ bytes ≡ spelled_kids r.0 ++ r.1)) same (and_both (is_name first) true n refl, (ap (λ x. codes "(" ++ first ++ x) w ∙ sym (append_assoc (codes "(" ++ first) (codes ")") rest)))))
     (λ rest e k. stepped (read_name_before (codes ")") rest) _ r k (λ second f s.
-        let same : (Two first second.0, second.1) ≡ r = cc in
-        let w : bytes ≡ codes "," ++ rest = word_front (codes ",") bytes rest e in
-        let m = name_before_found (codes ")") rest second f in
-        let v : rest ≡ second.0 ++ codes ")" ++ second.1 = m.whole in
-        subst (λ r. (are_names r.0 ≡ true) × (codes "(" ++ first ++ bytes ≡ spelled_kids r.0 ++ r.1)) same
-            (and_both (is_name first) (is_name second.0 && true) n (and_both (is_name second.0) true m.kind refl), (rw (w, v) (simp append_assoc)))))
+    let same : (Two first second.0, second.1) ≡ r = cc in
+    let w : bytes ≡ codes "," ++ rest = word_front (codes ",") bytes rest e in
+    let m = name_before_found (codes ")") rest second f in
+    let v : rest ≡ second.0 ++ codes ")" ++ second.1 = m.whole in
+    subst (λ r. (are_names r.0 ≡ true) × (codes "(" ++ first ++ bytes ≡ spelled_kids r.0 ++ r.1)) same
+    (and_both (is_name first) (is_name second.0 && true) n (and_both (is_name second.0) true m.kind refl), (rw (w, v) (simp append_assoc)))))
 
 pub kids_found : (bytes : List ℕ) (r : PlainKids × List ℕ) → read_kids bytes ≡ Some r → Found are_names spelled_kids bytes r
 kids_found bytes r h =
     by_word (behind (codes "(") bytes) _ _ r h
     (λ e s. let same : (Absent, bytes) ≡ r = cc in subst (Found are_names spelled_kids bytes) same (record { kind = refl; whole = refl }))
     (λ rest e k. stepped (read_name rest) _ r k (λ first f s.
-        let w : bytes ≡ codes "(" ++ rest = word_front (codes "(") bytes rest e in
-        let n = name_found rest first f in
-        let v : rest ≡ first.0 ++ first.1 = n.whole in
-        let found = kids_from_found first.0 first.1 r n.kind s in
-        record { kind = found.0; whole = rw (w, v) (found.1) }))
+    let w : bytes ≡ codes "(" ++ rest = word_front (codes "(") bytes rest e in
+    let n = name_found rest first f in
+    let v : rest ≡ first.0 ++ first.1 = n.whole in
+    let found = kids_from_found first.0 first.1 r n.kind s in
+    record { kind = found.0; whole = rw (w, v) (found.1) }))
 
 -- what stands behind a rule's pattern
 abbrev quotes : List ℕ
@@ -96,10 +96,10 @@ cost_found bytes r h =
     by_word (behind (codes " ") bytes) _ _ r h
     (λ e s. let same : (None, bytes) ≡ r = cc in subst (Found is_plain_cost spelled_cost bytes) same (record { kind = refl; whole = refl }))
     (λ rest e k. stepped (read_integer greatest_cost rest) _ r k (λ number f s.
-        let w : bytes ≡ codes " " ++ rest = word_front (codes " ") bytes rest e in
-        let i = integer_found greatest_cost rest number f in
-        let same : (Some number.0, number.1) ≡ r = cc in
-        subst (Found is_plain_cost spelled_cost bytes) same (record { kind = i.kind; whole = w ∙ ap (λ x. codes " " ++ x) i.whole })))
+    let w : bytes ≡ codes " " ++ rest = word_front (codes " ") bytes rest e in
+    let i = integer_found greatest_cost rest number f in
+    let same : (Some number.0, number.1) ≡ r = cc in
+    subst (Found is_plain_cost spelled_cost bytes) same (record { kind = i.kind; whole = w ∙ ap (λ x. codes " " ++ x) i.whole })))
 
 end_stops : (rest : List ℕ) → EndsLine rest → Stops is_ascii_digit rest
 end_stops [] h = tt
@@ -145,9 +145,13 @@ rule_read rule rest h e =
     let m = both (is_name rule.left) (is_name rule.operator) l.0 in
     let tail : List ℕ = spelled_cost rule.cost ++ rest in
     let shape : spelled_rule rule ++ rest ≡ rule.left ++ (codes ": " ++ (rule.operator ++ (spelled_kids rule.kids ++ (quotes ++ (spelled_cost rule.cost ++ rest))))) = simp append_assoc in
-    rw (shape, name_before_read (codes ": ") rule.left (rule.operator ++ (spelled_kids rule.kids ++ (quotes ++ (spelled_cost rule.cost ++ rest)))) m.0 refl,
-        name_read rule.operator (spelled_kids rule.kids ++ (quotes ++ (spelled_cost rule.cost ++ rest))) m.1 (kids_stop rule.kids (spelled_cost rule.cost ++ rest)),
-        kids_read rule.kids (spelled_cost rule.cost ++ rest) l.1, cost_read rule.cost rest k.1 e) refl
+    rw (
+      shape,
+      name_before_read (codes ": ") rule.left (rule.operator ++ (spelled_kids rule.kids ++ (quotes ++ (spelled_cost rule.cost ++ rest)))) m.0 refl,
+      name_read rule.operator (spelled_kids rule.kids ++ (quotes ++ (spelled_cost rule.cost ++ rest))) m.1 (kids_stop rule.kids (spelled_cost rule.cost ++ rest)),
+      kids_read rule.kids (spelled_cost rule.cost ++ rest) l.1,
+      cost_read rule.cost rest k.1 e,
+    ) refl
   where
     kids_stop : (kids : PlainKids) (rest : List ℕ) → Stops is_name_byte (spelled_kids kids ++ (quotes ++ rest))
     kids_stop Absent rest = refl

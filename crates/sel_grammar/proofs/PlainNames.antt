@@ -1,13 +1,13 @@
 -- What is read of names and numbers is what the bytes spell, and what they spell is read.
-use Rattle.std.proofs.Common.{◌≡◌, ℕ, suc, zero, ◌+◌, ◌≤◌, ◌<◌, List, [], ◌∷◌, ◌++◌, Option, Some, None, Bool, true, false, length, take, drop, refl, ap, sym, ◌∙◌, subst, arith, cond, eqb, leb, ◌||◌, ◌&&◌, append_assoc, length-append}
-use Rattle.std.specs.Prelude.{codes, nat_le}
+use Rattle.std.proofs.Common.{◌≡◌, ℕ, suc, ◌+◌, List, [], ◌∷◌, ◌++◌, Option, Some, None, Bool, true, false, length, take, refl, ap, sym, ◌∙◌, subst, arith, cond, eqb, ◌&&◌, append_assoc}
+use Rattle.std.specs.Prelude.{nat_le}
 use Rattle.std.specs.List.{prefix_len, list_all}
 use Rattle.std.specs.Char.{is_ascii_digit}
 use Rattle.std.specs.Str.Parse.{digits_value}
 use Rattle.std.proofs.Math.Seq.{take-append_seam, drop-append_seam}
 use Rattle.std.proofs.lemmas.List.{take-append-drop}
 use Rattle.sel_grammar.specs.PlainText.{is_letter, is_name_byte, is_name, is_integer, is_integer_to}
-use Rattle.sel_grammar.specs.PlainReading.{Read, and_then, behind, cut, read_name, read_digits, read_integer, read_name_before}
+use Rattle.sel_grammar.specs.PlainReading.{and_then, behind, cut, read_name, read_digits, read_integer, read_name_before}
 
 -- what follows doesn't go on with the run
 abbrev pub Stops : (ℕ → Bool) → List ℕ → Type 0

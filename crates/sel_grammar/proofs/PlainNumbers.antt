@@ -1,7 +1,7 @@
 -- The number of a name in a list of names.
-use Rattle.std.proofs.Common.{◌≡◌, ℕ, suc, zero, ◌+◌, ◌≤◌, ◌<◌, List, [], ◌∷◌, ◌++◌, Option, Some, None, Bool, true, false, length, refl, ap, sym, ◌∙◌, subst, arith, cond, ltb, ◌||◌, map, cond}
+use Rattle.std.proofs.Common.{◌≡◌, ℕ, suc, ◌+◌, ◌<◌, List, [], ◌∷◌, ◌++◌, Bool, true, false, length, refl, ap, sym, ◌∙◌, arith, cond, ◌||◌, map, cond}
 use Rattle.std.specs.Prelude.{nat_lt, not, bytes_eq, if◌then◌else◌, flat_map}
-use Rattle.std.specs.List.{prefix_len, list_any, list_all, position_or_len}
+use Rattle.std.specs.List.{prefix_len, list_any, position_or_len}
 use Rattle.std.proofs.lemmas.List.{length-map}
 use Rattle.sel_grammar.specs.PlainForm.{number_of, is_among, with_new, named_by}
 use Rattle.sel_grammar.specs.declared.plain_text.PlainRule.{PlainRule}

@@ -1,5 +1,5 @@
 -- One more entry and one more rule, as the code reads them one after the other.
-use Rattle.std.proofs.Common.{◌≡◌, ℕ, suc, zero, ◌+◌, ◌≤◌, ◌<◌, List, [], ◌∷◌, ◌++◌, Option, Some, None, Bool, true, false, length, refl, ap, sym, ◌∙◌, subst, arith, append_assoc, append-nil, length-append, cond}
+use Rattle.std.proofs.Common.{◌≡◌, ℕ, suc, zero, ◌+◌, ◌<◌, List, [], ◌∷◌, ◌++◌, Option, Some, None, true, false, length, refl, ap, sym, ◌∙◌, arith, append_assoc, append-nil, length-append, cond}
 use Rattle.std.specs.Prelude.{codes}
 use Rattle.sel_grammar.specs.declared.plain_text.PlainEntry.{PlainEntry}
 use Rattle.sel_grammar.specs.declared.plain_text.PlainRule.{PlainRule}
@@ -50,8 +50,8 @@ entries_fuel zero m bytes h k = absurd (omega arith)
 entries_fuel (suc n) zero bytes h k = absurd (omega arith)
 entries_fuel (suc n) (suc m) bytes h k =
     same_from n m bytes (behind (codes " ") bytes) (λ rest e. same_behind n m (read_entry rest) (λ entry f.
-        let s : length entry.1 < length bytes = entry_shorter bytes rest entry e f in
-        entries_fuel n m entry.1 (omega arith) (omega arith)))
+    let s : length entry.1 < length bytes = entry_shorter bytes rest entry e f in
+    entries_fuel n m entry.1 (omega arith) (omega arith)))
 
 pub entries_end : (bytes : List ℕ) → behind (codes " ") bytes ≡ None → read_entries bytes ≡ Some ([], bytes)
 unfolding read_entries
@@ -112,8 +112,8 @@ rules_fuel zero m bytes h k = absurd (omega arith)
 rules_fuel (suc n) zero bytes h k = absurd (omega arith)
 rules_fuel (suc n) (suc m) bytes h k =
     ap (λ o. cond (is_end bytes) (Some []) o) (same_lines n m (behind line_end bytes) (λ rest e. same_rules_behind n m (read_rule rest) (λ rule f.
-        let s : length rule.1 < length bytes = rule_shorter bytes rest rule e f in
-        rules_fuel n m rule.1 (omega arith) (omega arith))))
+    let s : length rule.1 < length bytes = rule_shorter bytes rest rule e f in
+    rules_fuel n m rule.1 (omega arith) (omega arith))))
 
 pub rules_end : (bytes : List ℕ) → is_end bytes ≡ true → read_rules bytes ≡ Some []
 unfolding read_rules

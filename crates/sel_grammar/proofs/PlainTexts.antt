@@ -1,5 +1,5 @@
 -- What is read of whole texts is what the bytes spell, and what they spell is read.
-use Rattle.std.proofs.Common.{◌≡◌, ℕ, suc, zero, ◌+◌, ◌≤◌, ◌<◌, List, [], ◌∷◌, ◌++◌, Option, Some, None, Bool, true, false, length, refl, ap, sym, ◌∙◌, subst, arith, cond, eqb, ◌&&◌, append_assoc, append-nil, length-append, ◌⊎◌, inl, inr}
+use Rattle.std.proofs.Common.{◌≡◌, ℕ, suc, zero, ◌+◌, ◌≤◌, ◌<◌, List, [], ◌∷◌, ◌++◌, Option, Some, None, Bool, true, false, length, refl, ap, sym, ◌∙◌, subst, arith, cond, append_assoc, append-nil, length-append, ◌⊎◌, inl, inr}
 use Rattle.std.specs.Prelude.{codes, flat_map}
 use Rattle.std.specs.List.{list_all}
 use Rattle.std.specs.Char.{is_ascii_digit}
@@ -7,8 +7,8 @@ use Rattle.sel_grammar.specs.declared.plain_text.PlainEntry.{PlainEntry}
 use Rattle.sel_grammar.specs.declared.plain_text.PlainRule.{PlainRule}
 use Rattle.sel_grammar.specs.declared.plain_text.PlainText.{PlainText}
 use Rattle.sel_grammar.specs.PlainText.{spelled_entry, spelled_rule, spelled_kids, spelled_cost, spelled_lines, SpellsLines, line_end, is_plain_entry, is_plain_rule}
-use Rattle.sel_grammar.specs.PlainReading.{Read, and_then, behind, read_entry, read_rule, read_entries_to, read_entries, is_end, read_rules_to, read_rules, read_lines}
-use Rattle.sel_grammar.proofs.PlainNames.{Stops, both, and_both, stepped, Found, behind_word, word_front}
+use Rattle.sel_grammar.specs.PlainReading.{behind, read_entry, read_rule, read_entries_to, read_entries, is_end, read_rules_to, read_rules, read_lines}
+use Rattle.sel_grammar.proofs.PlainNames.{Stops, both, and_both, stepped, Found, word_front}
 use Rattle.sel_grammar.proofs.PlainLines.{EndsLine, by_word, entry_tail, entry_found, entry_read, rule_found, rule_read}
 
 -- a line end and a rule
@@ -29,13 +29,13 @@ entries_found (suc n) bytes r h =
     by_word (behind (codes " ") bytes) _ _ r h
     (λ e s. let same : ([], bytes) ≡ r = cc in subst (Found (list_all is_plain_entry) (flat_map spelled_entry) bytes) same (record { kind = refl; whole = refl }))
     (λ rest e k. stepped (read_entry rest) _ r k (λ entry f s. stepped (read_entries_to n entry.1) _ r s (λ entries i j.
-        let one = spaced_entry bytes rest entry e f in
-        let more = entries_found n entry.1 entries i in
-        let same : (entry.0 ∷ entries.0, entries.1) ≡ r = cc in
-        subst (Found (list_all is_plain_entry) (flat_map spelled_entry) bytes) same (record {
-          kind = and_both (is_plain_entry entry.0) (list_all is_plain_entry entries.0) one.0 more.kind;
-          whole = one.1 ∙ ap (λ x. spelled_entry entry.0 ++ x) more.whole ∙ sym (append_assoc (spelled_entry entry.0) (flat_map spelled_entry entries.0) entries.1);
-        }))))
+    let one = spaced_entry bytes rest entry e f in
+    let more = entries_found n entry.1 entries i in
+    let same : (entry.0 ∷ entries.0, entries.1) ≡ r = cc in
+    subst (Found (list_all is_plain_entry) (flat_map spelled_entry) bytes) same (record {
+      kind = and_both (is_plain_entry entry.0) (list_all is_plain_entry entries.0) one.0 more.kind;
+      whole = one.1 ∙ ap (λ x. spelled_entry entry.0 ++ x) more.whole ∙ sym (append_assoc (spelled_entry entry.0) (flat_map spelled_entry entries.0) entries.1);
+    }))))
 
 entries_stop : (entries : List PlainEntry) (rest : List ℕ) → EndsLine rest → Stops is_ascii_digit (flat_map spelled_entry entries ++ rest)
 entries_stop [] [] h = tt
@@ -97,11 +97,11 @@ rules_found (suc n) bytes rules h =
     by_test (is_end bytes) (Some []) _ rules h
     (λ e s. let same : [] ≡ rules = cc in subst (λ rs. (list_all is_plain_rule rs ≡ true) × AreLines bytes rs) same (refl, at_end bytes e))
     (λ e s. stepped (behind line_end bytes) _ rules s (λ rest f k. stepped (read_rule rest) _ rules k (λ rule g l. stepped (read_rules_to n rule.1) _ rules l (λ more i j.
-        let one = ended_rule bytes rest rule f g in
-        let others = rules_found n rule.1 more i in
-        let same : rule.0 ∷ more ≡ rules = cc in
-        subst (λ rs. (list_all is_plain_rule rs ≡ true) × AreLines bytes rs) same
-            (and_both (is_plain_rule rule.0) (list_all is_plain_rule more) one.0 others.0, line_more bytes [] rule.1 rule.0 more one.1 others.1)))))
+    let one = ended_rule bytes rest rule f g in
+    let others = rules_found n rule.1 more i in
+    let same : rule.0 ∷ more ≡ rules = cc in
+    subst (λ rs. (list_all is_plain_rule rs ≡ true) × AreLines bytes rs) same
+    (and_both (is_plain_rule rule.0) (list_all is_plain_rule more) one.0 others.0, line_more bytes [] rule.1 rule.0 more one.1 others.1)))))
 
 -- a last line end or none
 abbrev pub IsEnd : List ℕ → Type 0
@@ -135,7 +135,7 @@ rules_read (rule ∷ rules) end (suc n) h e l =
     let k = both (is_plain_rule rule) (list_all is_plain_rule rules) h in
     let shape : flat_map rule_line (rule ∷ rules) ++ end ≡ line_end ++ (spelled_rule rule ++ (flat_map rule_line rules ++ end)) = simp append_assoc in
     let goes : is_end (line_end ++ (spelled_rule rule ++ (flat_map rule_line rules ++ end))) ≡ false =
-        ap (λ x. is_end (10 ∷ x)) (apart rule (flat_map rule_line rules ++ end)) ∙ not_end rule.left (behind_left rule (flat_map rule_line rules ++ end)) in
+    ap (λ x. is_end (10 ∷ x)) (apart rule (flat_map rule_line rules ++ end)) ∙ not_end rule.left (behind_left rule (flat_map rule_line rules ++ end)) in
     let fits : length rules < n = omega arith in
     let one : read_rule (spelled_rule rule ++ (flat_map rule_line rules ++ end)) ≡ Some (rule, flat_map rule_line rules ++ end) = rule_read rule (flat_map rule_line rules ++ end) k.0 (lines_end rules end e) in
     ap (read_rules_to (suc n)) shape ∙ rw (goes, one, rules_read rules end n k.1 e fits) refl
@@ -160,7 +160,7 @@ spelled_lines_from bytes rest text h (inl k) =
     inl (h ∙ regrouped (codes "%term") (flat_map spelled_entry text.entries) line_end (codes "%%") rest ∙ ap (λ x. codes "%term" ++ flat_map spelled_entry text.entries ++ line_end ++ codes "%%" ++ x) k)
 spelled_lines_from bytes rest text h (inr k) =
     inr (h ∙ regrouped (codes "%term") (flat_map spelled_entry text.entries) line_end (codes "%%") rest ∙ ap (λ x. codes "%term" ++ flat_map spelled_entry text.entries ++ line_end ++ codes "%%" ++ x) k
-        ∙ sym (append_assoc (codes "%term" ++ flat_map spelled_entry text.entries ++ line_end ++ codes "%%") (flat_map rule_line text.rules) line_end))
+    ∙ sym (append_assoc (codes "%term" ++ flat_map spelled_entry text.entries ++ line_end ++ codes "%%") (flat_map rule_line text.rules) line_end))
 
 pub lines_found : (bytes : List ℕ) (text : PlainText) → read_lines bytes ≡ Some text → LinesFound bytes text
 unfolding read_lines read_entries read_rules
@@ -188,7 +188,7 @@ lines_read_with end text e h k =
     let tail : List ℕ = flat_map rule_line text.rules ++ end in
     let after : List ℕ = (line_end ++ codes "%%") ++ (flat_map rule_line text.rules ++ end) in
     let n : length text.entries < suc (length (flat_map spelled_entry text.entries ++ ((line_end ++ codes "%%") ++ (flat_map rule_line text.rules ++ end)))) =
-        omega (arith, entries_short text.entries, length-append (flat_map spelled_entry text.entries) ((line_end ++ codes "%%") ++ (flat_map rule_line text.rules ++ end))) in
+    omega (arith, entries_short text.entries, length-append (flat_map spelled_entry text.entries) ((line_end ++ codes "%%") ++ (flat_map rule_line text.rules ++ end))) in
     let m : length text.rules < suc (length (flat_map rule_line text.rules ++ end)) = omega (arith, rules_short text.rules, length-append (flat_map rule_line text.rules) end) in
     rw (entries_read text.entries ((line_end ++ codes "%%") ++ (flat_map rule_line text.rules ++ end)) _ h refl n, rules_read text.rules end _ k e m) refl
 

@@ -17,6 +17,7 @@ use Rattle.sel_grammar.specs.declared.plain_text.PlainText.{PlainText}
 use Rattle.sel_grammar.specs.Limits.{most_operators, most_nonterminals, most_rules, unbuilt}
 use Rattle.sel_grammar.specs.PlainText.{SpellsLines, kid_names, is_plain_entry, is_plain_rule}
 
+-- the name stands in the list
 abbrev pub is_among : List (List ℕ) → List ℕ → Bool
 is_among names name = list_any (λ other. bytes_eq other name) names
 
@@ -25,9 +26,11 @@ abbrev pub has_twice : List (List ℕ) → Bool
 has_twice [] = false
 has_twice (name ∷ names) = is_among names name || has_twice names
 
+-- what `%term` declares, in order
 abbrev pub operator_names : PlainText → List (List ℕ)
 operator_names text = map (λ entry. entry.name) text.entries
 
+-- the left names of the rules, in order
 abbrev pub left_names : PlainText → List (List ℕ)
 left_names text = map (λ rule. rule.left) text.rules
 
@@ -44,6 +47,7 @@ abbrev pub with_new : List (List ℕ) → List (List ℕ) → List (List ℕ)
 with_new names [] = names
 with_new names (name ∷ further) = with_new (if is_among names name then names else names ++ name ∷ []) further
 
+-- the nonterminals in the order in which the rules first name them
 abbrev pub nonterminals_of : PlainText → List (List ℕ)
 nonterminals_of text = with_new [] (named text)
 
@@ -52,6 +56,7 @@ abbrev pub first_use : List PlainRule → List ℕ → Option ℕ
 first_use [] name = None
 first_use (rule ∷ rules) name = if bytes_eq rule.operator name then Some (length (kid_names rule.kids)) else first_use rules name
 
+-- there is a number, and it is this one
 abbrev pub is_number : Option ℕ → ℕ → Bool
 is_number None n = false
 is_number (Some m) n = m == n
@@ -64,7 +69,7 @@ is_lawful_rule text rule =
     && not (list_any (is_among (operator_names text)) (named_by rule))
     && list_all (is_among (left_names text)) (kid_names rule.kids)
 
--- What makes the lines a text of the plain form.
+-- What makes the lines a text of the plain form: there are entries and rules and not too many, each name and number is one, no name is declared twice, and each rule is lawful.
 pub record IsPlain (text : PlainText) : Type 0 where
   pub an_entry : 1 ≤ length text.entries
   pub a_rule : 1 ≤ length text.rules
@@ -80,6 +85,7 @@ pub record IsPlain (text : PlainText) : Type 0 where
 abbrev pub number_of : List (List ℕ) → List ℕ → ℕ
 number_of names name = position_or_len (λ other. bytes_eq other name) names
 
+-- what the entry declares, with as many kids as at its first use
 abbrev pub operator_of : List PlainRule → PlainEntry → Operator
 operator_of rules entry = record { name = entry.name; external = digits_value 10 entry.number; arity = first_use rules entry.name }
 
@@ -117,6 +123,7 @@ abbrev pub start_of : List (List ℕ) → List PlainRule → ℕ
 start_of nonterminals [] = 0
 start_of nonterminals (rule ∷ rules) = number_of nonterminals rule.left
 
+-- behind the lines of `%term` and `%%`
 abbrev pub first_rule_line : ℕ
 first_rule_line = 3
 

@@ -16,7 +16,7 @@ use Rattle.sel_grammar.specs.PlainText.{is_letter, is_name_byte, line_end}
 abbrev pub Read : Type 0 → Type 0
 Read X = Option (X × List ℕ)
 
--- the second step, with what the first one gave
+-- the second step, on what the first one gave
 abbrev pub and_then : {X Y : Type 0} → Option X → (X → Option Y) → Option Y
 and_then None f = None
 and_then (Some x) f = f x
@@ -31,10 +31,12 @@ behind (w ∷ word) (b ∷ bytes) = if b == w then behind word bytes else None
 abbrev pub cut : (ℕ → Bool) → List ℕ → List ℕ × List ℕ
 cut p bytes = (take (prefix_len p bytes) bytes, drop (prefix_len p bytes) bytes)
 
+-- the longest name at the front
 abbrev pub read_name : List ℕ → Read (List ℕ)
 read_name [] = None
 read_name (b ∷ bytes) = if is_letter b then Some (cut is_name_byte (b ∷ bytes)) else None
 
+-- the longest run of digits at the front
 abbrev pub read_digits : List ℕ → Read (List ℕ)
 read_digits [] = None
 read_digits (b ∷ bytes) = if is_ascii_digit b then Some (cut is_ascii_digit (b ∷ bytes)) else None
@@ -47,6 +49,7 @@ read_integer limit bytes = and_then (read_digits bytes) (λ digits. if nat_le (d
 abbrev pub read_name_before : List ℕ → List ℕ → Read (List ℕ)
 read_name_before word bytes = and_then (read_name bytes) (λ name. and_then (behind word name.1) (λ rest. Some (name.0, rest)))
 
+-- `NAME=INTEGER`
 abbrev pub read_entry : List ℕ → Read PlainEntry
 read_entry bytes =
     and_then (read_name_before (codes "=") bytes) (λ name.
@@ -56,19 +59,25 @@ read_entry bytes =
 -- what stands behind the first kid
 abbrev pub read_kids_from : List ℕ → List ℕ → Read PlainKids
 read_kids_from first bytes = elim (behind (codes ",") bytes) [
-    None ↦ and_then (behind (codes ")") bytes) (λ rest. Some (One first, rest))
-  | Some rest ↦ and_then (read_name_before (codes ")") rest) (λ second. Some (Two first second.0, second.1)) ]
+  | None ↦ and_then (behind (codes ")") bytes) (λ rest. Some (One first, rest))
+  | Some rest ↦ and_then (read_name_before (codes ")") rest) (λ second. Some (Two first second.0, second.1))
+]
 
+-- nothing, `(N)` or `(N,N)`
 abbrev pub read_kids : List ℕ → Read PlainKids
 read_kids bytes = elim (behind (codes "(") bytes) [
-    None ↦ Some (Absent, bytes)
-  | Some rest ↦ and_then (read_name rest) (λ first. read_kids_from first.0 first.1) ]
+  | None ↦ Some (Absent, bytes)
+  | Some rest ↦ and_then (read_name rest) (λ first. read_kids_from first.0 first.1)
+]
 
+-- nothing, or a space and an integer
 abbrev pub read_cost : List ℕ → Read (Option (List ℕ))
 read_cost bytes = elim (behind (codes " ") bytes) [
-    None ↦ Some (None, bytes)
-  | Some rest ↦ and_then (read_integer greatest_cost rest) (λ number. Some (Some number.0, number.1)) ]
+  | None ↦ Some (None, bytes)
+  | Some rest ↦ and_then (read_integer greatest_cost rest) (λ number. Some (Some number.0, number.1))
+]
 
+-- `LEFT: OPERATOR(KIDS) ""` and the cost
 abbrev pub read_rule : List ℕ → Read PlainRule
 read_rule bytes =
     and_then (read_name_before (codes ": ") bytes) (λ left.
@@ -82,9 +91,11 @@ read_rule bytes =
 abbrev pub read_entries_to : ℕ → List ℕ → Read (List PlainEntry)
 read_entries_to zero bytes = None
 read_entries_to (suc n) bytes = elim (behind (codes " ") bytes) [
-    None ↦ Some ([], bytes)
-  | Some rest ↦ and_then (read_entry rest) (λ entry. and_then (read_entries_to n entry.1) (λ entries. Some (entry.0 ∷ entries.0, entries.1))) ]
+  | None ↦ Some ([], bytes)
+  | Some rest ↦ and_then (read_entry rest) (λ entry. and_then (read_entries_to n entry.1) (λ entries. Some (entry.0 ∷ entries.0, entries.1)))
+]
 
+-- all entries at the front, each behind a space
 unfoldable pub read_entries : List ℕ → Read (List PlainEntry)
 read_entries bytes = read_entries_to (suc (length bytes)) bytes
 
@@ -101,9 +112,11 @@ read_rules_to (suc n) bytes =
     if is_end bytes then Some []
     else and_then (behind line_end bytes) (λ rest. and_then (read_rule rest) (λ rule. and_then (read_rules_to n rule.1) (λ rules. Some (rule.0 ∷ rules))))
 
+-- rules up to the end, each behind a line end
 unfoldable pub read_rules : List ℕ → Option (List PlainRule)
 read_rules bytes = read_rules_to (suc (length bytes)) bytes
 
+-- the lines of a whole text
 unfoldable pub read_lines : List ℕ → Option PlainText
 read_lines bytes =
     and_then (behind (codes "%term") bytes) (λ rest.

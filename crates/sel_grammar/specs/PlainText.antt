@@ -1,5 +1,5 @@
 -- How the lines of the plain form are spelled, and what their names and numbers are.
-use Rattle.std.specs.Prelude.{◌≡◌, ℕ, ◌<◌, Bool, true, false, ◌&&◌, ◌||◌, ◌==◌, nat_lt, nat_le, Option, Some, None, List, [], ◌∷◌, ◌++◌, length, flat_map, codes, ◌⊎◌}
+use Rattle.std.specs.Prelude.{◌≡◌, ℕ, Bool, true, false, ◌&&◌, ◌||◌, ◌==◌, nat_le, Option, Some, None, List, [], ◌∷◌, ◌++◌, flat_map, codes, ◌⊎◌}
 use Rattle.std.specs.List.{list_all}
 use Rattle.std.specs.Char.{is_ascii_digit, is_ascii_alphabetic}
 use Rattle.std.specs.Str.Parse.{digits_value}
@@ -32,6 +32,7 @@ is_integer (b ∷ bytes) = is_ascii_digit b && list_all is_ascii_digit bytes
 abbrev pub is_integer_to : ℕ → List ℕ → Bool
 is_integer_to limit digits = is_integer digits && nat_le (digits_value 10 digits) limit
 
+-- LF
 abbrev pub line_end : List ℕ
 line_end = 10 ∷ []
 
@@ -73,9 +74,10 @@ abbrev pub is_plain_cost : Option (List ℕ) → Bool
 is_plain_cost None = true
 is_plain_cost (Some digits) = is_integer_to greatest_cost digits
 
--- Each name is a name, and the number is not too large.
+-- The name is one, and the number is one that is not too large.
 abbrev pub is_plain_entry : PlainEntry → Bool
 is_plain_entry entry = is_name entry.name && is_integer_to greatest_external entry.number
 
+-- The names are some, and the cost is not too large.
 abbrev pub is_plain_rule : PlainRule → Bool
 is_plain_rule rule = is_name rule.left && is_name rule.operator && list_all is_name (kid_names rule.kids) && is_plain_cost rule.cost

@@ -43,7 +43,12 @@ fn shown(alloc: Global, grammar: &Grammar) -> Result<String, Fail> {
             Pattern::Nullary(operator) => write!(out, "{operator}")?,
             Pattern::Unary(operator, kid) => write!(out, "{operator}({})", leaf(kid.get()))?,
             Pattern::Binary(operator, left, right) => {
-                write!(out, "{operator}({},{})", leaf(left.get()), leaf(right.get()))?
+                write!(
+                    out,
+                    "{operator}({},{})",
+                    leaf(left.get()),
+                    leaf(right.get())
+                )?
             }
         }
         write!(out, " {},{}", rule.cost.first, rule.cost.second)?;
@@ -54,7 +59,8 @@ fn shown(alloc: Global, grammar: &Grammar) -> Result<String, Fail> {
 #[test]
 fn a_plain_text_is_the_grammar_that_it_says(rt: HostRuntime) -> Result<(), Fail> {
     let alloc = rt.alloc();
-    let worked = "0; X=1/Some(0) U=2/Some(1) P=3/Some(2); s a b; 3:1 0=1(1) 3,0; 4:1 0=2(1,2) 1,0; 5:1 1=0 2,0; 6:1 2=0 1,0; 7:1 1=1(2) 0,0";
+    let worked =
+        "0; X=1/Some(0) U=2/Some(1) P=3/Some(2); s a b; 3:1 0=1(1) 3,0; 4:1 0=2(1,2) 1,0; 5:1 1=0 2,0; 6:1 2=0 1,0; 7:1 1=1(2) 0,0";
     let cases = [
         (
             "%term X=1 U=2 P=3\n%%\ns: U(a) \"\" 3\ns: P(a,b) \"\" 1\na: X \"\" 2\nb: X \"\" 1\na: U(b) \"\" 0\n",
@@ -116,18 +122,17 @@ fn another_text_is_refused_at_its_first_byte(rt: HostRuntime) -> Result<(), Fail
     ];
     for text in texts {
         assert!(rt; text.len() < 100);
-        assert_eq!(rt; read_grammar(alloc, text.as_bytes()).err(), Some(UNBUILT_TEXT), "of {text}");
+        assert_eq!(rt;
+            read_grammar(alloc, text.as_bytes()).err(),
+            Some(UNBUILT_TEXT),
+            "of {text}"
+        );
     }
     Ok(())
 }
 
 // a text with so many operators, nonterminals and rules
-fn sized(
-    alloc: Global,
-    operators: u32,
-    nonterminals: u32,
-    rules: u32,
-) -> Result<String, Fail> {
+fn sized(alloc: Global, operators: u32, nonterminals: u32, rules: u32) -> Result<String, Fail> {
     let mut out = String::new(alloc);
     write!(out, "%term")?;
     for n in 0..operators {

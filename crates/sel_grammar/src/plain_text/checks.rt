@@ -56,9 +56,7 @@ fn are_kids_left(rules: &[PlainRule], kids: &PlainKids) -> bool
     match kids {
         PlainKids::Absent => true,
         PlainKids::One(a) => is_left(rules, a.as_slice()),
-        PlainKids::Two(a, b) => {
-            is_left(rules, a.as_slice()) && is_left(rules, b.as_slice())
-        }
+        PlainKids::Two(a, b) => { is_left(rules, a.as_slice()) && is_left(rules, b.as_slice()) }
     }
 }
 

@@ -7,10 +7,9 @@ ghost use Rattle.std.specs.Str.Parse.{digits_value, AllDigits};
 ghost use Rattle.sel_grammar.specs.PlainText as plain;
 ghost use Rattle.sel_grammar.specs.PlainReading as reading;
 
+use super::Digits;
 use sel_base::{List, Name, NoMemory};
 use std::alloc::Global;
-
-use super::Digits;
 
 fn is_letter(b: u8) -> bool
     ensures { result ≡ plain.is_letter b }

@@ -3,18 +3,14 @@
 ghost use Rattle.std.specs.Prelude.{◌≡◌, ◌+◌, ◌<◌, ◌≤◌, length, IfOk, IfSome, MatchOption, Some, None};
 ghost use Rattle.sel_grammar.specs.PlainReading as reading;
 
-use sel_base::{Name, NoMemory};
-use std::alloc::Global;
-
 use super::lexis::{behind, read_integer, read_name, read_name_before};
 use super::{Digits, PlainEntry, PlainKids, PlainRule};
 use crate::limits::{GREATEST_COST, GREATEST_EXTERNAL};
+use sel_base::{Name, NoMemory};
+use std::alloc::Global;
 
 /// `NAME=INTEGER`, and what stands behind it.
-pub fn read_entry(
-    alloc: Global,
-    bytes: &[u8],
-) -> Result<Option<(PlainEntry, &[u8])>, NoMemory>
+pub fn read_entry(alloc: Global, bytes: &[u8]) -> Result<Option<(PlainEntry, &[u8])>, NoMemory>
     ensures { IfOk result (λ read. MatchOption read (reading.read_entry bytes.now ≡ None) (λ r. reading.read_entry bytes.now ≡ Some (r.0, r.1.now))) }
 {
     let Some((name, rest)) = read_name_before(alloc, b"=", bytes)? else {
@@ -46,10 +42,7 @@ fn read_kids_from(
     }
 }
 
-fn read_kids(
-    alloc: Global,
-    bytes: &[u8],
-) -> Result<Option<(PlainKids, &[u8])>, NoMemory>
+fn read_kids(alloc: Global, bytes: &[u8]) -> Result<Option<(PlainKids, &[u8])>, NoMemory>
     ensures { IfOk result (λ read. MatchOption read (reading.read_kids bytes.now ≡ None) (λ r. reading.read_kids bytes.now ≡ Some (r.0, r.1.now))) }
 {
     let Some(rest) = behind(b"(", bytes) else {
@@ -61,10 +54,7 @@ fn read_kids(
     read_kids_from(alloc, first, rest)
 }
 
-fn read_cost(
-    alloc: Global,
-    bytes: &[u8],
-) -> Result<Option<(Option<Digits>, &[u8])>, NoMemory>
+fn read_cost(alloc: Global, bytes: &[u8]) -> Result<Option<(Option<Digits>, &[u8])>, NoMemory>
     ensures { IfOk result (λ read. MatchOption read (reading.read_cost bytes.now ≡ None) (λ r. reading.read_cost bytes.now ≡ Some (r.0, r.1.now))) }
 {
     let Some(rest) = behind(b" ", bytes) else {
@@ -77,10 +67,7 @@ fn read_cost(
 }
 
 /// `LEFT: OPERATOR(KIDS) ""` and its cost, and what stands behind it.
-pub fn read_rule(
-    alloc: Global,
-    bytes: &[u8],
-) -> Result<Option<(PlainRule, &[u8])>, NoMemory>
+pub fn read_rule(alloc: Global, bytes: &[u8]) -> Result<Option<(PlainRule, &[u8])>, NoMemory>
     ensures { IfOk result (λ read. MatchOption read (reading.read_rule bytes.now ≡ None) (λ r. reading.read_rule bytes.now ≡ Some (r.0, r.1.now))) }
 {
     let Some((left, rest)) = read_name_before(alloc, b": ", bytes)? else {

@@ -7,16 +7,15 @@ ghost use Rattle.sel_grammar.specs.Limits.{most_operators, most_nonterminals, mo
 ghost use Rattle.sel_grammar.specs.PlainText.{is_integer_to, is_plain_cost, is_plain_entry, is_plain_rule};
 ghost use Rattle.sel_grammar.specs.PlainForm as form;
 
-use sel_base::{List, Name, NoMemory};
-use sqlite_items::Boxed;
-use std::alloc::Global;
-
 use super::checks::first_use;
 use super::lexis::number;
 use super::names::{name_number, operator_number};
 use super::{Digits, PlainEntry, PlainKids, PlainRule, PlainText};
 use crate::grammar::{Grammar, Operator, Pattern, Rule, RuleCost, Template};
 use crate::limits::{GREATEST_COST, GREATEST_EXTERNAL};
+use sel_base::{List, Name, NoMemory};
+use sqlite_items::Boxed;
+use std::alloc::Global;
 
 /// The number that the digits write, which is at most the limit.
 fn value_of(digits: &[u8], limit: u32) -> u32
@@ -102,11 +101,7 @@ fn rule_of(
     })
 }
 
-fn operator_of(
-    alloc: Global,
-    rules: &[PlainRule],
-    entry: &PlainEntry,
-) -> Result<Operator, NoMemory>
+fn operator_of(alloc: Global, rules: &[PlainRule], entry: &PlainEntry) -> Result<Operator, NoMemory>
     requires { is_plain_entry entry.now ≡ true }
     ensures { IfOk result (λ operator. operator ≡ form.operator_of rules.now entry.now) }
 {
@@ -135,11 +130,7 @@ fn operators_of(alloc: Global, text: &PlainText) -> Result<Vec<Operator>, NoMemo
 /// The line of the first rule, behind those of the operators and of `%%`.
 const FIRST_RULE_LINE: u32 = 3;
 
-fn rules_of(
-    alloc: Global,
-    text: &PlainText,
-    nonterminals: &[Name],
-) -> Result<Vec<Rule>, NoMemory>
+fn rules_of(alloc: Global, text: &PlainText, nonterminals: &[Name]) -> Result<Vec<Rule>, NoMemory>
     requires operators { length text.now.entries ≤ most_operators }
     requires nonterminals { length nonterminals.now ≤ most_nonterminals }
     requires few { length text.now.rules ≤ most_rules }

@@ -13,9 +13,6 @@ ghost use Rattle.sel_grammar.specs.Chains.{HasNoFreeCycle};
 ghost use Rattle.sel_grammar.specs.Limits.{IsWithinLimits};
 ghost use Rattle.sel_grammar.specs.PlainForm.{SpellsGrammar, GrammarRefusedFor};
 
-use sel_base::{List, Name, NoMemory};
-use std::alloc::Global;
-
 use self::checks::{are_few, are_lawful};
 use self::meaning::grammar_of;
 use self::names::nonterminals_of;
@@ -23,6 +20,8 @@ use self::texts::read_lines;
 use crate::grammar::Grammar;
 use crate::limits::{MOST_NONTERMINALS, UNBUILT};
 use crate::refusal::{GrammarFault, GrammarRefusal};
+use sel_base::{List, Name, NoMemory};
+use std::alloc::Global;
 
 /// The bytes of a number, one or more decimal digits.
 pub type Digits = List<u8>;

@@ -5,10 +5,9 @@ ghost use Rattle.std.specs.List.{position_or_len};
 ghost use Rattle.sel_grammar.specs.PlainForm as form;
 ghost use Rattle.sel_grammar.specs.PlainText.{kid_names};
 
+use super::{PlainEntry, PlainKids, PlainRule};
 use sel_base::{List, Name, NoMemory};
 use std::alloc::Global;
-
-use super::{PlainEntry, PlainKids, PlainRule};
 
 /// The place of the entry with the name, or how many entries there are.
 pub fn operator_number(entries: &[PlainEntry], name: &[u8]) -> usize

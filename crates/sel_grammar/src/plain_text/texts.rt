@@ -3,18 +3,14 @@
 ghost use Rattle.std.specs.Prelude.{◌≡◌, ◌+◌, ◌<◌, ◌≤◌, length, IfOk, IfSome, MatchOption, Some, None};
 ghost use Rattle.sel_grammar.specs.PlainReading as reading;
 
-use sel_base::{List, NoMemory};
-use std::alloc::Global;
-
 use super::lexis::behind;
 use super::lines::{read_entry, read_rule};
 use super::{PlainEntry, PlainRule, PlainText};
+use sel_base::{List, NoMemory};
+use std::alloc::Global;
 
 /// Entries as long as a space stands in front, and what stands behind them.
-fn read_entries(
-    alloc: Global,
-    bytes: &[u8],
-) -> Result<Option<(Vec<PlainEntry>, &[u8])>, NoMemory>
+fn read_entries(alloc: Global, bytes: &[u8]) -> Result<Option<(Vec<PlainEntry>, &[u8])>, NoMemory>
     ensures { IfOk result (λ read. MatchOption read (reading.read_entries bytes.now ≡ None) (λ r. reading.read_entries bytes.now ≡ Some (r.0.items, r.1.now))) }
 {
     let mut entries = Vec::new(alloc);

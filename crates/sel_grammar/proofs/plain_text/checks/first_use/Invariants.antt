@@ -1,4 +1,4 @@
-use Rattle.std.proofs.Common.{◌≡◌, ℕ, length, map}
+use Rattle.std.proofs.Common.{◌≡◌, length}
 use Rattle.sel_grammar.specs.PlainForm as form
 use Rattle.sel_grammar.proofs.plain_text.checks.first_use.Given as goal
 

@@ -1,4 +1,3 @@
-use Rattle.std.proofs.Common.{◌<◌, ◌≡◌, length, arith}
 use Rattle.sel_grammar.proofs.PlainDigits.{value_from}
 use Rattle.sel_grammar.proofs.plain_text.lexis.number.Goals as goal
 

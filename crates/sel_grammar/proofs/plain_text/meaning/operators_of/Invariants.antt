@@ -1,4 +1,4 @@
-use Rattle.std.proofs.Common.{◌≡◌, ℕ, length, map, ◌++◌, true}
+use Rattle.std.proofs.Common.{◌≡◌, length, map, ◌++◌, true}
 use Rattle.std.specs.List.{list_all}
 use Rattle.sel_grammar.specs.PlainText.{is_plain_entry}
 use Rattle.sel_grammar.specs.PlainForm as form

@@ -14,7 +14,7 @@ returns c =
     let left : c.name_number.result ≡ number_of c.args.nonterminals.now c.args.rule.now.left = search rules in
     let operator : c.operator_number-operator.result ≡ position_or_len (λ entry. bytes_eq entry.name c.args.rule.now.operator) c.args.entries.now = search rules in
     rule_said (map (λ entry. entry.name) c.args.entries.now) c.args.nonterminals.now c.args.line c.args.rule.now _ _ _ _
-        left
-        (c.in_ok-pattern.ensures ∙ ap (λ n. pattern_of n c.args.nonterminals.now c.args.rule.now.kids)
-            (operator ∙ sym (number_of_map (λ entry. entry.name) c.args.entries.now c.args.rule.now.operator)))
-        c.cost_of.ensures c.new.ensures
+    left
+    (c.in_ok-pattern.ensures ∙ ap (λ n. pattern_of n c.args.nonterminals.now c.args.rule.now.kids)
+    (operator ∙ sym (number_of_map (λ entry. entry.name) c.args.entries.now c.args.rule.now.operator)))
+    c.cost_of.ensures c.new.ensures

@@ -1,4 +1,4 @@
-use Rattle.std.proofs.Common.{◌≡◌, ◌≤◌, ◌+◌, ℕ, length, map, ◌++◌, true}
+use Rattle.std.proofs.Common.{◌≡◌, ◌≤◌, ◌+◌, length, ◌++◌, true}
 use Rattle.std.specs.List.{list_all}
 use Rattle.sel_grammar.specs.Limits.{most_rules}
 use Rattle.sel_grammar.specs.PlainText.{is_plain_rule}

@@ -1,4 +1,4 @@
-use Rattle.std.proofs.Common.{◌≡◌, ◌<◌, ◌∙◌, ◌++◌, ◌∷◌, [], rules, arith, length}
+use Rattle.std.proofs.Common.{◌≡◌, ◌<◌, ◌∙◌, ◌++◌, ◌∷◌, [], rules, length}
 use Rattle.sel_grammar.proofs.PlainNumbers.{with_new_added, with_new_kept}
 use Rattle.sel_grammar.proofs.plain_text.names.add_name.Goals as goal
 

@@ -1,4 +1,4 @@
-use Rattle.std.proofs.Common.{◌≡◌, ℕ, length, []}
+use Rattle.std.proofs.Common.{◌≡◌, length, []}
 use Rattle.std.specs.Prelude.{flat_map}
 use Rattle.sel_grammar.specs.PlainForm as form
 use Rattle.sel_grammar.proofs.plain_text.names.nonterminals_of.Given as goal

@@ -12,7 +12,7 @@ entries-smaller c =
 pub entries-preserved : goal.entries-preserved
 entries-preserved c =
     rw c.in_ok-push.ensures.items (entries_went_on c.entries.entries.items c.entries.rest.now c.in-Some.spaced.now c.in-Some-2.entry c.in-Some-2.left.now _ c.entries.invariant
-        c.in-Some.ensures.rest (rw c.in-Some-2.is at c.in_ok-entry.ensures))
+    c.in-Some.ensures.rest (rw c.in-Some-2.is at c.in_ok-entry.ensures))
 
 pub returns : goal.returns
 returns c = entries_ended c.entries.entries.items c.entries.rest.now _ c.entries.invariant c.in_default.ensures.rest

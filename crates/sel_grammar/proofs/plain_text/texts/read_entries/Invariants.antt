@@ -1,4 +1,4 @@
-use Rattle.std.proofs.Common.{◌≡◌, ℕ, length}
+use Rattle.std.proofs.Common.{◌≡◌, length}
 use Rattle.sel_grammar.specs.PlainReading as reading
 use Rattle.sel_grammar.proofs.PlainSteps.{in_front}
 use Rattle.sel_grammar.proofs.plain_text.texts.read_entries.Given as goal

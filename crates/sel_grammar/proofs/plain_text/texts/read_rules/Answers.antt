@@ -1,5 +1,4 @@
-use Rattle.std.proofs.Common.{◌≡◌, ◌∙◌, sym, false, true}
-use Rattle.sel_grammar.specs.PlainReading.{is_end}
+use Rattle.std.proofs.Common.{◌∙◌, sym}
 use Rattle.sel_grammar.proofs.PlainSteps.{rules_unended, rules_stopped, rules_ended, rules_went_on, rule_shorter}
 use Rattle.sel_grammar.proofs.plain_text.texts.read_rules.Goals as goal
 
@@ -18,7 +17,7 @@ rules-smaller c =
 pub rules-preserved : goal.rules-preserved
 rules-preserved c =
     rw c.in_ok-push.ensures.items (rules_went_on c.rules.rules.items c.rules.rest.now c.in-Some.line.now c.in-Some-2.rule c.in-Some-2.left.now _ c.rules.invariant
-        (sym c.is_end.ensures ∙ c.rules-test.true) c.in-Some.ensures.rest (rw c.in-Some-2.is at c.in_ok-rule.ensures))
+    (sym c.is_end.ensures ∙ c.rules-test.true) c.in-Some.ensures.rest (rw c.in-Some-2.is at c.in_ok-rule.ensures))
 
 pub returns : goal.returns
 returns c = rules_ended c.rules.rules.items c.rules.rest.now _ c.rules.invariant (sym c.is_end.ensures ∙ c.rules-test.false)
