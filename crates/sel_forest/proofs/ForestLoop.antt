@@ -11,7 +11,7 @@ use Rattle.sel_forest.specs.declared.refusal.ForestRefusal.{ForestRefusal}
 use Rattle.sel_forest.specs.declared.refusal.ForestRefusal.TheVariants as refusal
 use Rattle.sel_forest.specs.Limits.{most_trees}
 use Rattle.sel_forest.specs.Valid.{IsValidTree, IsValidForest}
-use Rattle.sel_forest.specs.ForestText.{SpellsLine, IsBlankLine, IsLineResult, IsLineFault, IsLineRefusal, SpellLines, no_lines, blank_line, tree_line, lines_of, SpellsForest, IsForestRefusal}
+use Rattle.sel_forest.specs.ForestText.{SpellsLine, IsBlankLine, IsLineResult, IsLineFault, IsLineRefusal, LinesSpell, no_lines, blank_line, tree_line, lines_of, SpellsForest, IsForestRefusal}
 use Rattle.sel_forest.proofs.Lawful.{front_yes}
 
 -- The first line ends before the first line feed.
@@ -53,24 +53,24 @@ first_cut (b ∷ bytes) h = go (b == 10) refl (first_cut bytes)
         ∙ ap (λ x. take (prefix_len inside (b ∷ bytes)) (b ∷ bytes) ∷ lines_of x) (sym (drop_more (prefix_len inside bytes) b bytes) ∙ ap (λ n. drop (n + 1) (b ∷ bytes)) (sym (prefix_yes b bytes (ap not e))))
 
 -- One line more.
-pub more_blank : (g : Grammar) (before : List (List ℕ)) (line : List ℕ) (trees : List Tree) → SpellLines g before trees → IsBlankLine line → SpellLines g (before ++ (line ∷ [])) trees
+pub more_blank : (g : Grammar) (before : List (List ℕ)) (line : List ℕ) (trees : List Tree) → LinesSpell g before trees → IsBlankLine line → LinesSpell g (before ++ (line ∷ [])) trees
 more_blank g _ line _ no_lines h = blank_line line [] [] h no_lines
 more_blank g _ line trees (blank_line first lines _ e rest) h = blank_line first (lines ++ (line ∷ [])) trees e (more_blank g lines line trees rest h)
 more_blank g _ line _ (tree_line first lines tree trees e rest) h = tree_line first (lines ++ (line ∷ [])) tree trees e (more_blank g lines line trees rest h)
 
-pub more_tree : (g : Grammar) (before : List (List ℕ)) (line : List ℕ) (trees : List Tree) (tree : Tree) → SpellLines g before trees → SpellsLine g line tree → SpellLines g (before ++ (line ∷ [])) (trees ++ (tree ∷ []))
+pub more_tree : (g : Grammar) (before : List (List ℕ)) (line : List ℕ) (trees : List Tree) (tree : Tree) → LinesSpell g before trees → SpellsLine g line tree → LinesSpell g (before ++ (line ∷ [])) (trees ++ (tree ∷ []))
 more_tree g _ line _ tree no_lines h = tree_line line [] tree [] h no_lines
 more_tree g _ line trees tree (blank_line first lines _ e rest) h = blank_line first (lines ++ (line ∷ [])) (trees ++ (tree ∷ [])) e (more_tree g lines line trees tree rest h)
 more_tree g _ line _ tree (tree_line first lines other trees e rest) h = tree_line first (lines ++ (line ∷ [])) other (trees ++ (tree ∷ [])) e (more_tree g lines line trees tree rest h)
 
-more_lines : (g : Grammar) (before : List (List ℕ)) (line : List ℕ) (trees trees' : List Tree) (tree : Option Tree) → SpellLines g before trees → IsLineResult g line tree → trees' ≡ trees ++ option_to_list tree
-    → SpellLines g (before ++ (line ∷ [])) trees'
-more_lines g before line trees trees' None s h e = subst (SpellLines g (before ++ (line ∷ []))) (sym (e ∙ nothing trees)) (more_blank g before line trees s h)
+more_lines : (g : Grammar) (before : List (List ℕ)) (line : List ℕ) (trees trees' : List Tree) (tree : Option Tree) → LinesSpell g before trees → IsLineResult g line tree → trees' ≡ trees ++ option_to_list tree
+    → LinesSpell g (before ++ (line ∷ [])) trees'
+more_lines g before line trees trees' None s h e = subst (LinesSpell g (before ++ (line ∷ []))) (sym (e ∙ nothing trees)) (more_blank g before line trees s h)
   where
     nothing : (xs : List Tree) → xs ++ [] ≡ xs
     nothing [] = refl
     nothing (x ∷ xs) = ap (λ ys. x ∷ ys) (nothing xs)
-more_lines g before line trees trees' (Some tree) s h e = subst (SpellLines g (before ++ (line ∷ []))) (sym e) (more_tree g before line trees tree s h)
+more_lines g before line trees trees' (Some tree) s h e = subst (LinesSpell g (before ++ (line ∷ []))) (sym e) (more_tree g before line trees tree s h)
 
 few_more : (trees trees' : List Tree) (tree : Option Tree) → length trees ≤ most_trees → OnSome tree (length trees < most_trees) → trees' ≡ trees ++ option_to_list tree → length trees' ≤ most_trees
 few_more trees trees' None few h e = omega (arith, ap length e, length-append trees [])
@@ -80,7 +80,7 @@ few_more trees trees' (Some tree) few h e = omega (arith, ap length e, length-ap
 pub record LinesRead (g : Grammar) (bytes rest : List ℕ) (trees : List Tree) (number : ℕ) : Type 0 where
   pub before : List (List ℕ)
   pub lines : lines_of bytes ≡ before ++ lines_of rest
-  pub spelled : SpellLines g before trees
+  pub spelled : LinesSpell g before trees
   pub few : length trees ≤ most_trees
   pub number_is : number ≡ length before + 1
   pub room : number + length rest ≤ length bytes + 1
@@ -89,7 +89,7 @@ pub read_start : (g : Grammar) (bytes : List ℕ) (trees : List Tree) → trees 
 read_start g bytes trees e = record {
   before = [];
   lines = refl;
-  spelled = subst (SpellLines g []) (sym e) no_lines;
+  spelled = subst (LinesSpell g []) (sym e) no_lines;
   few = omega (arith, ap length e);
   number_is = refl;
   room = omega arith;
@@ -109,7 +109,7 @@ read_next g bytes rest behind line trees trees' tree number r cut short h few e 
 pub read_end : (g : Grammar) (bytes rest line : List ℕ) (trees trees' : List Tree) (tree : Option Tree) (number : ℕ) → LinesRead g bytes rest trees number → lines_of rest ≡ line ∷ []
     → IsLineResult g line tree → OnSome tree (length trees < most_trees) → trees' ≡ trees ++ option_to_list tree → SpellsForest g bytes (record { trees = trees' })
 read_end g bytes rest line trees trees' tree number r cut h few e = record {
-  lines = subst (λ x. SpellLines g x trees') (sym (r.lines ∙ ap (λ x. r.before ++ x) cut)) (more_lines g r.before line trees trees' tree r.spelled h e);
+  lines = subst (λ x. LinesSpell g x trees') (sym (r.lines ∙ ap (λ x. r.before ++ x) cut)) (more_lines g r.before line trees trees' tree r.spelled h e);
   few = few_more trees trees' tree r.few few e;
 }
 
@@ -128,7 +128,7 @@ read_fault g bytes rest line others trees number (refusal.Fault fault) r cut h =
 read_fault g bytes rest line others trees number refusal.NoMemory r cut h = tt
 
 -- A spelled forest is valid.
-each_valid : (g : Grammar) (lines : List (List ℕ)) (trees : List Tree) → SpellLines g lines trees → (k : ℕ) (tree : Tree) → slice_get trees k ≡ Some tree → IsValidTree g tree
+each_valid : (g : Grammar) (lines : List (List ℕ)) (trees : List Tree) → LinesSpell g lines trees → (k : ℕ) (tree : Tree) → slice_get trees k ≡ Some tree → IsValidTree g tree
 each_valid g _ _ no_lines k tree h = cc
 each_valid g _ trees (blank_line line lines _ e rest) k tree h = each_valid g lines trees rest k tree h
 each_valid g _ _ (tree_line line lines first trees e rest) zero tree h = let q : first ≡ tree = cc in subst (IsValidTree g) q e.valid

@@ -6,7 +6,7 @@ use Rattle.sel_forest.specs.declared.refusal.ForestFault.{ForestFault}
 use Rattle.sel_forest.specs.Limits.{most_trees}
 use Rattle.sel_forest.specs.Tokens.{place}
 use Rattle.sel_forest.specs.LineFaults.{HasFault, stray, wrong, HasFirstFault}
-use Rattle.sel_forest.specs.ForestText.{SpellLines, no_lines, blank_line, tree_line}
+use Rattle.sel_forest.specs.ForestText.{LinesSpell, no_lines, blank_line, tree_line}
 use Rattle.sel_forest.specs.Laws.{ForestFaultIsOne, ForestOrFault}
 use Rattle.sel_forest.proofs.OneForest.{lines_once, not_blank}
 use Rattle.sel_forest.proofs.Faultless.{tree_faultless, blank_faultless}
@@ -33,8 +33,8 @@ one_first g trees line k j at at' f h = go (order f.n h.n)
     )
 
 -- No line of a spelled text has a first fault.
-no_fault_inside : (g : Grammar) (m : ℕ) (before : List (List ℕ)) (line : List ℕ) (others : List (List ℕ)) (trees all : List Tree) (kind at : ℕ) → SpellLines g (before ++ (line ∷ others)) all → m + length all ≤ most_trees
-    → SpellLines g before trees → HasFirstFault g (m + length trees) line kind at → ⊥
+no_fault_inside : (g : Grammar) (m : ℕ) (before : List (List ℕ)) (line : List ℕ) (others : List (List ℕ)) (trees all : List Tree) (kind at : ℕ) → LinesSpell g (before ++ (line ∷ others)) all → m + length all ≤ most_trees
+    → LinesSpell g before trees → HasFirstFault g (m + length trees) line kind at → ⊥
 no_fault_inside g m [] line others _ all kind at (blank_line _ _ _ h r) few no_lines f = blank_faultless g (m + 0) line kind at h f
 no_fault_inside g m [] line others _ _ kind at (tree_line _ _ made rest h r) few no_lines f = tree_faultless g (m + 0) line made kind at h (omega arith) f
 no_fault_inside g m (first ∷ before) line others trees all kind at (blank_line _ _ _ h r) few (blank_line _ _ _ h' r') f = no_fault_inside g m before line others trees all kind at r few r' f
@@ -44,14 +44,14 @@ no_fault_inside g m (first ∷ before) line others _ _ kind at (tree_line _ _ ma
     no_fault_inside g (m + 1) before line others rest' rest kind at r (omega arith) r'
     (let e : m + length (made' ∷ rest') ≡ (m + 1) + length rest' = omega arith in subst (λ n. HasFirstFault g n line kind at) e f)
 
-no_fault_in : (g : Grammar) (before : List (List ℕ)) (line : List ℕ) (others : List (List ℕ)) (trees all : List Tree) (kind at : ℕ) → SpellLines g (before ++ (line ∷ others)) all → length all ≤ most_trees
-    → SpellLines g before trees → HasFirstFault g (length trees) line kind at → ⊥
+no_fault_in : (g : Grammar) (before : List (List ℕ)) (line : List ℕ) (others : List (List ℕ)) (trees all : List Tree) (kind at : ℕ) → LinesSpell g (before ++ (line ∷ others)) all → length all ≤ most_trees
+    → LinesSpell g before trees → HasFirstFault g (length trees) line kind at → ⊥
 no_fault_in g before line others trees all kind at s few r f =
     no_fault_inside g 0 before line others trees all kind at s (omega arith) r (let e : length trees ≡ 0 + length trees = omega arith in subst (λ n. HasFirstFault g n line kind at) e f)
 
 pub forest_or_fault : ForestOrFault
 forest_or_fault g bytes forest fault s f =
-    no_fault_in g f.before f.line f.others f.trees forest.trees fault.kind f.here.at (subst (λ x. SpellLines g x forest.trees) f.lines s.lines) s.few f.spelled f.here.first_fault
+    no_fault_in g f.before f.line f.others f.trees forest.trees fault.kind f.here.at (subst (λ x. LinesSpell g x forest.trees) f.lines s.lines) s.few f.spelled f.here.first_fault
 
 -- Two ways to part a list.
 abbrev Parts : List (List ℕ) → List (List ℕ) → List ℕ → List ℕ → Type 0
@@ -79,11 +79,11 @@ fault_one g bytes f h x y = go (parts x.before y.before x.others y.others x.line
   where
     go : Parts x.before y.before x.line y.line → f ≡ h
     go (inl e) =
-        let trees : x.trees ≡ y.trees = lines_once g y.before x.trees y.trees (subst (λ b. SpellLines g b x.trees) e.0 x.spelled) y.spelled in
+        let trees : x.trees ≡ y.trees = lines_once g y.before x.trees y.trees (subst (λ b. LinesSpell g b x.trees) e.0 x.spelled) y.spelled in
         let first = subst (λ t. HasFirstFault g (length t) y.line f.kind x.here.at) trees (subst (λ l. HasFirstFault g (length x.trees) l f.kind x.here.at) e.1 x.here.first_fault) in
         let same = one_first g (length y.trees) y.line f.kind h.kind x.here.at y.here.at first y.here.first_fault in
         same_fault f h same.0 (x.here.line_is ∙ ap (λ b. length b + 1) e.0 ∙ sym y.here.line_is) (x.here.column_is ∙ ap (λ n. n + 1) same.1 ∙ sym y.here.column_is)
     go (inr (inl e)) =
-        absurd (no_fault_in g x.before x.line e.0 x.trees y.trees f.kind x.here.at (subst (λ b. SpellLines g b y.trees) e.1 y.spelled) y.few x.spelled x.here.first_fault)
+        absurd (no_fault_in g x.before x.line e.0 x.trees y.trees f.kind x.here.at (subst (λ b. LinesSpell g b y.trees) e.1 y.spelled) y.few x.spelled x.here.first_fault)
     go (inr (inr e)) =
-        absurd (no_fault_in g y.before y.line e.0 y.trees x.trees h.kind y.here.at (subst (λ b. SpellLines g b x.trees) e.1 x.spelled) x.few y.spelled y.here.first_fault)
+        absurd (no_fault_in g y.before y.line e.0 y.trees x.trees h.kind y.here.at (subst (λ b. LinesSpell g b x.trees) e.1 x.spelled) x.few y.spelled y.here.first_fault)

@@ -13,7 +13,7 @@ use Rattle.sel_forest.specs.OpenNodes.{Opened, Fresh, Half, Full, whole}
 use Rattle.sel_forest.specs.Machine.{step, run, go}
 use Rattle.sel_forest.specs.declared.line.State.{State}
 use Rattle.sel_forest.specs.declared.line.State.TheVariants.{Start, Ended}
-use Rattle.sel_forest.specs.ForestText.{SpellsLine, IsBlankLine, SpellLines, no_lines, blank_line, tree_line, lines_of}
+use Rattle.sel_forest.specs.ForestText.{SpellsLine, IsBlankLine, LinesSpell, no_lines, blank_line, tree_line, lines_of}
 use Rattle.sel_forest.specs.Laws.{ForestIsOne}
 use Rattle.sel_forest.proofs.Viable.{complete}
 use Rattle.sel_forest.proofs.Standing.{opened_from, opened}
@@ -168,7 +168,7 @@ not_blank g line made h b =
     let some = some_token g h.tokens h.valid.plain h.spells in
     omega arith
 
-pub lines_once : (g : Grammar) (lines : List (List ℕ)) (trees trees' : List Tree) → SpellLines g lines trees → SpellLines g lines trees' → trees ≡ trees'
+pub lines_once : (g : Grammar) (lines : List (List ℕ)) (trees trees' : List Tree) → LinesSpell g lines trees → LinesSpell g lines trees' → trees ≡ trees'
 lines_once g _ _ _ no_lines no_lines = refl
 lines_once g _ trees trees' (blank_line line lines _ h r) (blank_line _ _ _ h' r') = lines_once g lines trees trees' r r'
 lines_once g _ trees _ (blank_line line lines _ h r) (tree_line _ _ other trees' h' r') = absurd (not_blank g line other h' h)

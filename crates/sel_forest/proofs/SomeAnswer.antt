@@ -9,7 +9,7 @@ use Rattle.sel_forest.specs.Limits.{most_trees}
 use Rattle.sel_forest.specs.Postorder.{postorder}
 use Rattle.sel_forest.specs.Tokens.{skip, width, start, first}
 use Rattle.sel_forest.specs.LineFaults.{around, kind_of, HasFirstFault}
-use Rattle.sel_forest.specs.ForestText.{SpellsLine, IsBlankLine, SpellLines, no_lines, lines_of, SpellsForest, IsForestFault}
+use Rattle.sel_forest.specs.ForestText.{SpellsLine, IsBlankLine, LinesSpell, no_lines, lines_of, SpellsForest, IsForestFault}
 use Rattle.sel_forest.specs.OpenNodes.{Opened, whole}
 use Rattle.sel_forest.specs.Machine.{step}
 use Rattle.sel_forest.specs.declared.line.State.{State}
@@ -66,14 +66,14 @@ abbrev Answer : Grammar → List ℕ → Type 0
 Answer g bytes = ((forest : Forest) × SpellsForest g bytes forest) ⊎ ((fault : ForestFault) × IsForestFault g bytes fault)
 
 -- the lines before gave these trees; the rest is decided line by line
-answer : (g : Grammar) → HasPairsAtMost g → (bytes : List ℕ) (before rest : List (List ℕ)) (trees : List Tree) → lines_of bytes ≡ before ++ rest → SpellLines g before trees → length trees ≤ most_trees → Answer g bytes
+answer : (g : Grammar) → HasPairsAtMost g → (bytes : List ℕ) (before rest : List (List ℕ)) (trees : List Tree) → lines_of bytes ≡ before ++ rest → LinesSpell g before trees → length trees ≤ most_trees → Answer g bytes
 answer g two bytes before [] trees e s few =
-    inl (record { trees = trees }, record { lines = subst (λ x. SpellLines g x trees) (sym (append-nil before) ∙ sym e) s; few = few })
+    inl (record { trees = trees }, record { lines = subst (λ x. LinesSpell g x trees) (sym (append-nil before) ∙ sym e) s; few = few })
 answer g two bytes before (line ∷ others) trees e s few =
     go (line_answer g two (length trees) line)
     (λ trees' s' few'. answer g two bytes (before ++ (line ∷ [])) others trees' (e ∙ sym (append_assoc before (line ∷ []) others)) s' few')
   where
-    go : LineAnswer g (length trees) line → ((trees' : List Tree) → SpellLines g (before ++ (line ∷ [])) trees' → length trees' ≤ most_trees → Answer g bytes) → Answer g bytes
+    go : LineAnswer g (length trees) line → ((trees' : List Tree) → LinesSpell g (before ++ (line ∷ [])) trees' → length trees' ≤ most_trees → Answer g bytes) → Answer g bytes
     go (inl b) next = next trees (more_blank g before line trees s b) few
     go (inr (inl t)) next = next (trees ++ (t.0 ∷ [])) (more_tree g before line trees t.0 s t.1) (omega (arith, length-append trees (t.0 ∷ []), t.2))
     go (inr (inr f)) next = inr (

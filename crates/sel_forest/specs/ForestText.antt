@@ -41,18 +41,18 @@ abbrev pub IsLineRefusal : Grammar → ℕ → List ℕ → ℕ → ForestRefusa
 IsLineRefusal g trees line number (refusal.Fault fault) = IsLineFault g trees line number fault
 IsLineRefusal g trees line number refusal.NoMemory = Unit {0}
 
--- each line spells a tree, in their order, or is blank
-pub data SpellLines (g : Grammar) : List (List ℕ) → List Tree → Type 0 where
-  no_lines : SpellLines g [] []
-  blank_line : (line : List ℕ) (lines : List (List ℕ)) (trees : List Tree) → IsBlankLine line → SpellLines g lines trees → SpellLines g (line ∷ lines) trees
-  tree_line : (line : List ℕ) (lines : List (List ℕ)) (tree : Tree) (trees : List Tree) → SpellsLine g line tree → SpellLines g lines trees → SpellLines g (line ∷ lines) (tree ∷ trees)
+-- the lines spell the trees, in their order: each line spells one, or is blank
+pub data LinesSpell (g : Grammar) : List (List ℕ) → List Tree → Type 0 where
+  no_lines : LinesSpell g [] []
+  blank_line : (line : List ℕ) (lines : List (List ℕ)) (trees : List Tree) → IsBlankLine line → LinesSpell g lines trees → LinesSpell g (line ∷ lines) trees
+  tree_line : (line : List ℕ) (lines : List (List ℕ)) (tree : Tree) (trees : List Tree) → SpellsLine g line tree → LinesSpell g lines trees → LinesSpell g (line ∷ lines) (tree ∷ trees)
 
 -- what stands between line feeds
 abbrev pub lines_of : List ℕ → List (List ℕ)
 lines_of bytes = slice_split (λ b. b == 10) bytes
 
 pub record SpellsForest (g : Grammar) (bytes : List ℕ) (forest : Forest) : Type 0 where
-  pub lines : SpellLines g (lines_of bytes) forest.trees
+  pub lines : LinesSpell g (lines_of bytes) forest.trees
   pub few : length forest.trees ≤ most_trees
 
 -- The first fault of a text: the lines before its line, which are numbered from 1, spell trees or are blank.
@@ -62,7 +62,7 @@ pub record IsForestFault (g : Grammar) (bytes : List ℕ) (fault : ForestFault) 
   pub others : List (List ℕ)
   pub lines : lines_of bytes ≡ before ++ (line ∷ others)
   pub trees : List Tree
-  pub spelled : SpellLines g before trees
+  pub spelled : LinesSpell g before trees
   pub few : length trees ≤ most_trees
   pub here : IsLineFault g (length trees) line (length before + 1) fault
 

@@ -1,21 +1,16 @@
 -- Which tree the tokens of a line spell.
-use Rattle.std.specs.Prelude.{ℕ, ◌==◌, Bool, false, not, List, [], ◌∷◌, ◌++◌, if◌then◌else◌, ℤ, pos, neg_ℤ}
+use Rattle.std.specs.Prelude.{ℕ, ◌==◌, Bool, false, not, bytes_eq, List, [], ◌∷◌, ◌++◌, if◌then◌else◌, ℤ, pos, neg_ℤ}
 use Rattle.std.specs.List.{prefix_len}
-use Rattle.std.specs.Cmp.Lexicographic.{pointwise}
 use Rattle.std.specs.Str.Parse.{digits_value}
-use Rattle.std.proofs.Common.{eqb}
 use Rattle.sel_grammar.specs.declared.grammar.Attribute.{Attribute}
 use Rattle.sel_grammar.specs.declared.grammar.Attribute.TheVariants as attribute
 use Rattle.sel_grammar.specs.declared.grammar.Grammar.{Grammar}
 use Rattle.sel_grammar.specs.PlainTrees.{PlainTree, Node0, Node1, Node2}
 use Rattle.sel_forest.specs.Tokens.{Token, Name, Number, Symbol, Colon, Open, Comma, Close}
 
-abbrev pub same_bytes : List ℕ → List ℕ → Bool
-same_bytes a b = pointwise eqb a b
-
 -- the number of the operator with this name, or the number of operators where there is none
 abbrev pub number_of : Grammar → List ℕ → ℕ
-number_of g name = prefix_len (λ operator. not (same_bytes operator.name name)) g.operators
+number_of g name = prefix_len (λ operator. not (bytes_eq operator.name name)) g.operators
 
 abbrev pub is_negative : List ℕ → Bool
 is_negative [] = false

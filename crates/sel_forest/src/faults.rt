@@ -1,6 +1,6 @@
 //! What may be wrong with a token of a line.
 
-ghost use Rattle.std.specs.Prelude.{◌≡◌, ℕ, ◌++◌, ◌∷◌, ◌<◌, ◌≤◌, ◌^◌, [], List, length, slice_get, map, ◌+◌, None, Some};
+ghost use Rattle.std.specs.Prelude.{◌≡◌, ℕ, ◌++◌, ◌∷◌, ◌<◌, ◌≤◌, ◌^◌, [], List, length, slice_get, map, ◌+◌, bytes_eq, None, Some};
 ghost use Rattle.std.specs.Option.{option_copied, option_map};
 ghost use Rattle.sel_grammar.specs.Limits.{IsWithinLimits};
 ghost use Rattle.sel_forest.specs.LineFaults as faults;
@@ -8,7 +8,7 @@ ghost use Rattle.sel_forest.specs.LineFaults.{Around};
 ghost use Rattle.sel_forest.specs.OpenNodes.{Opened, own_nodes, put_down, bare_in, parents_in, parent_of, behind_first, first_parent};
 ghost use Rattle.sel_forest.specs.Pieces.{view, IsLawful};
 ghost use Rattle.sel_forest.specs.Surroundings.{Meets};
-ghost use Rattle.sel_forest.specs.TreeText.{number_of, same_bytes};
+ghost use Rattle.sel_forest.specs.TreeText.{number_of};
 
 use crate::forest::Node;
 use crate::limits::{
@@ -39,7 +39,7 @@ pub struct Surroundings {
 }
 
 fn is_named(operator: &Operator, name: &[u8]) -> bool
-    ensures { result ≡ same_bytes operator.now.name name.now }
+    ensures { result ≡ bytes_eq operator.now.name name.now }
 {
     operator.name.as_slice() == name
 }
