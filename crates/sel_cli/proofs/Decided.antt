@@ -16,7 +16,7 @@ use Rattle.sel_forest.specs.declared.refusal.ForestFault.{ForestFault}
 use Rattle.sel_forest.specs.Covers.{IsAnswer}
 use Rattle.sel_forest.specs.ForestText.{SpellsForest, IsForestFault}
 use Rattle.sel_forest.proofs.OneForest.{forest_one}
-use Rattle.sel_forest.proofs.OneFault.{fault_one as forest_fault_one, forest_or_fault}
+use Rattle.sel_forest.proofs.OneFault.{fault_one as forest_fault_one, not_forest_and_fault}
 use Rattle.sel_forest.proofs.Roots.{plain_one}
 use Rattle.sel_cli.specs.Words.{TextNames}
 use Rattle.sel_cli.specs.Output.{AreAnswers, IsTreesAnswer, IsOutput}
@@ -72,9 +72,9 @@ same_forest_side g text long_forest (bad_forest fault) p q = over _ _ p q.0
 same_forest_side g text long_forest (good_forest forest) p q = over _ _ p q.0
 same_forest_side g text (bad_forest fault) long_forest p q = over _ _ q p.0
 same_forest_side g text (bad_forest fault) (bad_forest other) p q = ap (λ f. bad_forest f) (forest_fault_one g text fault other p.1 q.1)
-same_forest_side g text (bad_forest fault) (good_forest forest) p q = absurd (forest_or_fault g text forest fault q.1 p.1)
+same_forest_side g text (bad_forest fault) (good_forest forest) p q = absurd (not_forest_and_fault g text forest fault q.1 p.1)
 same_forest_side g text (good_forest forest) long_forest p q = over _ _ q p.0
-same_forest_side g text (good_forest forest) (bad_forest fault) p q = absurd (forest_or_fault g text forest fault p.1 q.1)
+same_forest_side g text (good_forest forest) (bad_forest fault) p q = absurd (not_forest_and_fault g text forest fault p.1 q.1)
 same_forest_side g text (good_forest forest) (good_forest other) p q = ap (λ f. good_forest f) (forest_one g text forest other p.1 q.1)
 
 same_side : (told : Option (List ℕ)) (text : List ℕ) (a b : Side) → FindsGrammar MayBe told text a → FindsGrammar IsTold told text b → a ≡ b

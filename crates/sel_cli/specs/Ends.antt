@@ -1,5 +1,5 @@
 -- How the top call ends, and why.
-use Rattle.std.specs.Prelude.{◌≡◌, ℕ, ◌<◌, Bool, true, false, List, [], ◌++◌, Option, Some, None, ◌⊎◌}
+use Rattle.std.specs.Prelude.{◌≡◌, ℕ, ◌<◌, Bool, true, false, List, [], ◌++◌, Option, Some, None, IfSome, ◌⊎◌}
 use Rattle.std.specs.Io.KnownBytes.{append_known}
 use Rattle.sel_base.specs.Causes.{Rose}
 use Rattle.sel_base.specs.Reads.{LastRead}
@@ -109,3 +109,16 @@ pub record IsAnswered (grammar : Grammar) (forest : Forest) (out_before out_afte
   pub output : IsOutput grammar forest covered bytes
   pub written : out_after ≡ append_known out_before bytes
   pub finishes : status ≡ finished covered
+
+-- the last read was of the text of this name, and didn't fail
+abbrev pub WasRead : Reads → List ℕ → Type 0
+WasRead reads name = (reads.last.name ≡ name) × (reads.last.failed ≡ false)
+
+-- what was read last: the grammar's text where it is refused, and the forest's where it is refused or answered
+abbrev pub ReadsFor : Option TextNames → Reads → Status → Type 0
+ReadsFor wanted reads (BadGrammar fault) = IfSome wanted (λ names. WasRead reads names.grammar)
+ReadsFor wanted reads (BadForest fault) = IfSome wanted (λ names. WasRead reads names.forest)
+ReadsFor wanted reads Done = IfSome wanted (λ names. WasRead reads names.forest)
+ReadsFor wanted reads Uncovered = IfSome wanted (λ names. WasRead reads names.forest)
+ReadsFor wanted reads WriteFault = IfSome wanted (λ names. WasRead reads names.forest)
+ReadsFor wanted reads _ = Unit {0}

@@ -11,7 +11,7 @@ ghost use Rattle.sel_cli.specs.declared.status.Status.{Status as AnyStatus};
 ghost use Rattle.sel_cli.specs.Words.{command};
 ghost use Rattle.sel_cli.specs.Names.{names_of};
 ghost use Rattle.sel_cli.specs.Texts.{IsTold, AcceptsForest};
-ghost use Rattle.sel_cli.specs.Ends.{EndsFor, Ending, Decides, IsExcused, IsAnswered, IsFrontOf};
+ghost use Rattle.sel_cli.specs.Ends.{EndsFor, Ending, Decides, IsExcused, IsAnswered, IsFrontOf, ReadsFor};
 ghost use Rattle.sel_cli.specs.Parts.{AnswersFor};
 ghost use Rattle.sel_cli.specs.Lines.{status_line};
 
@@ -48,6 +48,7 @@ fn answer<K: Sink, G: Gate>(
     ensures ends { (bytes : List ℕ) × AnswersFor grammar.now forest.now (K.faults out.old) (K.faults out.new) bytes result
         × (K.taken out.new ≡ append_known (K.taken out.old) bytes) }
     ensures later { K.faults out.old ≤ K.faults out.new }
+    ensures quiet { (result ≢ Status.WriteFault) → K.faults out.new ≡ K.faults out.old }
 {
     let Ok(answers) = answer_forest(alloc, grammar, forest, gate) else {
         return Status::NoMemory;
@@ -82,6 +83,9 @@ fn cover<'a, S: Shelf, K: Sink, G: Gate>(
     ensures unchanged { S.held shelf.new ≡ S.held shelf.old }
     ensures later { S.faults shelf.old ≤ S.faults shelf.new }
     ensures out_later { K.faults out.old ≤ K.faults out.new }
+    ensures quiet { (result.status ≢ Status.ReadFault) → S.faults shelf.new ≡ S.faults shelf.old }
+    ensures out_quiet { (result.status ≢ Status.WriteFault) → K.faults out.new ≡ K.faults out.old }
+    ensures read { ReadsFor (Some (names_of command.entry)) (record { before = S.faults shelf.old; after = S.faults shelf.new; last = S.last shelf.new }) result.status }
 {
     let grammar = match accept_grammar(alloc, shelf, command) {
         Ok(grammar) => grammar,
@@ -122,6 +126,9 @@ fn obey<'a, S: Shelf, K: Sink, G: Gate>(
     ensures unchanged { S.held shelf.new ≡ S.held shelf.old }
     ensures later { S.faults shelf.old ≤ S.faults shelf.new }
     ensures out_later { K.faults out.old ≤ K.faults out.new }
+    ensures quiet { (result.status ≢ Status.ReadFault) → S.faults shelf.new ≡ S.faults shelf.old }
+    ensures out_quiet { (result.status ≢ Status.WriteFault) → K.faults out.new ≡ K.faults out.old }
+    ensures read { ReadsFor (command (map string_bytes words.now)) (record { before = S.faults shelf.old; after = S.faults shelf.new; last = S.last shelf.new }) result.status }
 {
     match read_words(words) {
         Some(command) => cover(alloc, command, shelf, out, gate),
@@ -159,6 +166,9 @@ pub fn run<S: Shelf, K: Sink, E: Sink, G: Gate, Rt: Threads + Sync>(
     // Nothing is reported yet.
     ensures report { result.1 ≡ record { evaluated = 0; plain_nodes = 0; row_full = false; used_up = false } }
     ensures unchanged { S.held shelf.new ≡ S.held shelf.old }
+    ensures quiet { (result.0 ≢ Status.ReadFault) → S.faults shelf.new ≡ S.faults shelf.old }
+    ensures out_quiet { (result.0 ≢ Status.WriteFault) → K.faults out.new ≡ K.faults out.old }
+    ensures read { ReadsFor (command (map string_bytes words.now)) (record { before = S.faults shelf.old; after = S.faults shelf.new; last = S.last shelf.new }) result.0 }
     ensures later { (S.faults shelf.old ≤ S.faults shelf.new) × (K.faults out.old ≤ K.faults out.new) × (E.faults err.old ≤ E.faults err.new) }
 {
     let ended = obey(alloc, words, shelf, out, gate);

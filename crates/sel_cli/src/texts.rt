@@ -1,11 +1,12 @@
 // The two texts, read and accepted.
-ghost use Rattle.std.specs.Prelude.{◌≡◌, ◌≤◌, Some, length, IfOk, IfErr};
+ghost use Rattle.std.specs.Prelude.{◌≡◌, ◌≤◌, Some, length, IfOk, IfErr, IsErrOf, OnOk};
 ghost use Rattle.sel_grammar.specs.Limits.{IsWithinLimits};
 ghost use Rattle.sel_grammar.specs.Chains.{HasNoFreeCycle};
 ghost use Rattle.sel_forest.specs.Valid.{IsValidForest};
 ghost use Rattle.sel_cli.specs.Names.{names_of};
 ghost use Rattle.sel_cli.specs.Texts.{MayBe, AcceptsGrammar, AcceptsForest};
-ghost use Rattle.sel_cli.specs.Ends.{StopsFor};
+ghost use Rattle.sel_cli.specs.Ends.{StopsFor, WasRead, ReadsFor};
+ghost use Rattle.sel_cli.specs.Words.{TextNames};
 ghost use Rattle.sel_cli.specs.Parts.{FetchesFor};
 
 use crate::status::Status;
@@ -33,6 +34,9 @@ fn fetch<S: Shelf>(
         (record { before = S.faults shelf.old; after = S.faults shelf.new; last = S.last shelf.new }) name.now limit) }
     ensures unchanged { S.held shelf.new ≡ S.held shelf.old }
     ensures later { S.faults shelf.old ≤ S.faults shelf.new }
+    ensures quiet { (¬ IsErrOf result Status.ReadFault) → S.faults shelf.new ≡ S.faults shelf.old }
+    ensures read { OnOk result (WasRead (record { before = S.faults shelf.old; after = S.faults shelf.new; last = S.last shelf.new }) name.now) }
+    ensures unread { IfErr result (λ status. (names : TextNames) → ReadsFor (Some names) (record { before = S.faults shelf.old; after = S.faults shelf.new; last = S.last shelf.new }) status) }
 {
     match shelf.read(alloc, name, limit) {
         Ok(text) => Ok(text),
@@ -55,6 +59,9 @@ pub fn accept_grammar<S: Shelf>(
         (record { before = S.faults shelf.old; after = S.faults shelf.new; last = S.last shelf.new }) command.entry.grammar.now) }
     ensures unchanged { S.held shelf.new ≡ S.held shelf.old }
     ensures later { S.faults shelf.old ≤ S.faults shelf.new }
+    ensures quiet { (¬ IsErrOf result Status.ReadFault) → S.faults shelf.new ≡ S.faults shelf.old }
+    ensures read { OnOk result (WasRead (record { before = S.faults shelf.old; after = S.faults shelf.new; last = S.last shelf.new }) command.entry.grammar.now) }
+    ensures unread { IfErr result (ReadsFor (Some (names_of command.entry)) (record { before = S.faults shelf.old; after = S.faults shelf.new; last = S.last shelf.new })) }
 {
     let text = match fetch(alloc, shelf, command.grammar, GRAMMAR_LIMIT) {
         Ok(text) => text,
@@ -82,6 +89,9 @@ pub fn accept_forest<S: Shelf>(
         (record { before = S.faults shelf.old; after = S.faults shelf.new; last = S.last shelf.new }) command.entry.forest.now) }
     ensures unchanged { S.held shelf.new ≡ S.held shelf.old }
     ensures later { S.faults shelf.old ≤ S.faults shelf.new }
+    ensures quiet { (¬ IsErrOf result Status.ReadFault) → S.faults shelf.new ≡ S.faults shelf.old }
+    ensures read { OnOk result (WasRead (record { before = S.faults shelf.old; after = S.faults shelf.new; last = S.last shelf.new }) command.entry.forest.now) }
+    ensures unread { IfErr result (ReadsFor (Some (names_of command.entry)) (record { before = S.faults shelf.old; after = S.faults shelf.new; last = S.last shelf.new })) }
 {
     let text = match fetch(alloc, shelf, command.forest, FOREST_LIMIT) {
         Ok(text) => text,

@@ -7,7 +7,7 @@ use Rattle.sel_forest.specs.Limits.{most_trees}
 use Rattle.sel_forest.specs.Tokens.{place}
 use Rattle.sel_forest.specs.LineFaults.{HasFault, stray, wrong, HasFirstFault}
 use Rattle.sel_forest.specs.ForestText.{LinesSpell, no_lines, blank_line, tree_line}
-use Rattle.sel_forest.specs.Laws.{ForestFaultIsOne, ForestOrFault}
+use Rattle.sel_forest.specs.Laws.{ForestFaultIsOne, NotForestAndFault}
 use Rattle.sel_forest.proofs.OneForest.{lines_once, not_blank}
 use Rattle.sel_forest.proofs.Faultless.{tree_faultless, blank_faultless}
 
@@ -49,8 +49,8 @@ no_fault_in : (g : Grammar) (before : List (List ℕ)) (line : List ℕ) (others
 no_fault_in g before line others trees all kind at s few r f =
     no_fault_inside g 0 before line others trees all kind at s (omega arith) r (let e : length trees ≡ 0 + length trees = omega arith in subst (λ n. HasFirstFault g n line kind at) e f)
 
-pub forest_or_fault : ForestOrFault
-forest_or_fault g bytes forest fault s f =
+pub not_forest_and_fault : NotForestAndFault
+not_forest_and_fault g bytes forest fault s f =
     no_fault_in g f.before f.line f.others f.trees forest.trees fault.kind f.here.at (subst (λ x. LinesSpell g x forest.trees) f.lines s.lines) s.few f.spelled f.here.first_fault
 
 -- Two ways to part a list.

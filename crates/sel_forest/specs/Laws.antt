@@ -22,8 +22,8 @@ abbrev pub ForestFaultIsOne : Type 0
 ForestFaultIsOne = (g : Grammar) (bytes : List ℕ) (f h : ForestFault) → IsForestFault g bytes f → IsForestFault g bytes h → f ≡ h
 
 -- a text that spells a forest has no fault
-abbrev pub ForestOrFault : Type 0
-ForestOrFault = (g : Grammar) (bytes : List ℕ) (forest : Forest) (fault : ForestFault) → SpellsForest g bytes forest → IsForestFault g bytes fault → ⊥
+abbrev pub NotForestAndFault : Type 0
+NotForestAndFault = (g : Grammar) (bytes : List ℕ) (forest : Forest) (fault : ForestFault) → SpellsForest g bytes forest → IsForestFault g bytes fault → ⊥
 
 -- under a grammar within the limits a text spells a forest or has a fault
 abbrev pub SomeForestOrFault : Type 0

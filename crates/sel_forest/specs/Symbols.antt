@@ -1,18 +1,12 @@
 -- Which bytes names and symbols are made of.
 use Rattle.std.specs.Prelude.{◌≡◌, ℕ, Bool, true, List, [], ◌∷◌, ◌==◌, ◌||◌}
 use Rattle.std.specs.List.{list_all}
-use Rattle.std.specs.Char.{is_ascii_digit, is_ascii_alphabetic}
+use Rattle.std.specs.Char.{is_ascii_digit}
+pub use Rattle.sel_grammar.specs.Names.{is_letter, is_name_byte}
 
 -- space, tab, CR, form feed
 abbrev pub is_blank : ℕ → Bool
 is_blank b = (b == 32) || (b == 9) || (b == 13) || (b == 12)
-
--- a letter or _
-abbrev pub is_letter : ℕ → Bool
-is_letter b = is_ascii_alphabetic b || (b == 95)
-
-abbrev pub is_name_byte : ℕ → Bool
-is_name_byte b = is_letter b || is_ascii_digit b
 
 -- a letter, _, ., $ or @
 abbrev pub is_symbol_start : ℕ → Bool

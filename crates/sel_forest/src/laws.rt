@@ -1,5 +1,5 @@
 //! Laws of the definitions. The functions do nothing: their contracts say them.
-ghost use Rattle.sel_forest.specs.Laws.{PlainTreeIsOne, ForestIsOne, ForestFaultIsOne, ForestOrFault, SomeForestOrFault};
+ghost use Rattle.sel_forest.specs.Laws.{PlainTreeIsOne, ForestIsOne, ForestFaultIsOne, NotForestAndFault, SomeForestOrFault};
 
 /// Nodes are the postorder of at most one tree.
 pub fn plain_tree_is_one()
@@ -17,8 +17,8 @@ pub fn forest_fault_is_one()
 {}
 
 /// A text that spells a forest has no fault.
-pub fn forest_or_fault()
-    ensures { ForestOrFault }
+pub fn not_forest_and_fault()
+    ensures { NotForestAndFault }
 {}
 
 /// A text spells a forest or has a fault, under each grammar within the limits.

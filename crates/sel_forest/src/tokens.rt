@@ -7,22 +7,12 @@ ghost use Rattle.sel_forest.specs.Symbols as symbols;
 ghost use Rattle.sel_forest.specs.Tokens as tokens;
 ghost use Rattle.sel_forest.specs.Pieces.{view};
 
+use sel_grammar::names::{is_letter, is_name_byte};
+
 fn is_blank(b: u8) -> bool
     ensures { result ≡ symbols.is_blank b }
 {
     b == b' ' || b == b'\t' || b == b'\r' || b == 12
-}
-
-fn is_letter(b: u8) -> bool
-    ensures { result ≡ symbols.is_letter b }
-{
-    b.is_ascii_alphabetic() || b == b'_'
-}
-
-fn is_name_byte(b: u8) -> bool
-    ensures { result ≡ symbols.is_name_byte b }
-{
-    is_letter(b) || b.is_ascii_digit()
 }
 
 fn is_symbol_start(b: u8) -> bool

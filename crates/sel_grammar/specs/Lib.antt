@@ -8,6 +8,7 @@ pub mod Chains
 pub mod Laws
 pub mod Expansions
 pub mod Limits
+pub mod Names
 pub mod PlainText
 pub mod PlainForm
 pub mod PlainReading

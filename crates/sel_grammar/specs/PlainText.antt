@@ -1,22 +1,15 @@
 -- How the lines of the plain form are spelled, and what their names and numbers are.
-use Rattle.std.specs.Prelude.{◌≡◌, ℕ, Bool, true, false, ◌&&◌, ◌||◌, ◌==◌, nat_le, Option, Some, None, List, [], ◌∷◌, ◌++◌, flat_map, codes, ◌⊎◌}
+use Rattle.std.specs.Prelude.{◌≡◌, ℕ, Bool, true, false, ◌&&◌, nat_le, Option, Some, None, List, [], ◌∷◌, ◌++◌, flat_map, codes, ◌⊎◌}
 use Rattle.std.specs.List.{list_all}
-use Rattle.std.specs.Char.{is_ascii_digit, is_ascii_alphabetic}
+use Rattle.std.specs.Char.{is_ascii_digit}
 use Rattle.std.specs.Str.Parse.{digits_value}
+pub use Rattle.sel_grammar.specs.Names.{is_letter, is_name_byte}
 use Rattle.sel_grammar.specs.declared.plain_text.PlainEntry.{PlainEntry}
 use Rattle.sel_grammar.specs.declared.plain_text.PlainKids.{PlainKids}
 use Rattle.sel_grammar.specs.declared.plain_text.PlainKids.TheVariants.{Absent, One, Two}
 use Rattle.sel_grammar.specs.declared.plain_text.PlainRule.{PlainRule}
 use Rattle.sel_grammar.specs.declared.plain_text.PlainText.{PlainText}
 use Rattle.sel_grammar.specs.Limits.{greatest_external, greatest_cost}
-
--- a letter or `_`
-abbrev pub is_letter : ℕ → Bool
-is_letter b = is_ascii_alphabetic b || (b == 95)
-
--- a letter, `_` or a digit
-abbrev pub is_name_byte : ℕ → Bool
-is_name_byte b = is_letter b || is_ascii_digit b
 
 -- a letter or `_`, and then letters, digits and `_`
 abbrev pub is_name : List ℕ → Bool

@@ -4,6 +4,7 @@
 mod grammar;
 pub mod laws;
 pub mod limits;
+pub mod names;
 mod plain_text;
 mod refusal;
 

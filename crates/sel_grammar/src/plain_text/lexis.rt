@@ -8,20 +8,9 @@ ghost use Rattle.sel_grammar.specs.PlainText as plain;
 ghost use Rattle.sel_grammar.specs.PlainReading as reading;
 
 use super::Digits;
+use crate::names::{is_letter, is_name_byte};
 use sel_base::{List, Name, NoMemory};
 use std::alloc::Global;
-
-fn is_letter(b: u8) -> bool
-    ensures { result ≡ plain.is_letter b }
-{
-    b.is_ascii_alphabetic() || b == b'_'
-}
-
-fn is_name_byte(b: u8) -> bool
-    ensures { result ≡ plain.is_name_byte b }
-{
-    is_letter(b) || b.is_ascii_digit()
-}
 
 fn name_len(bytes: &[u8]) -> usize
     ensures len { result ≡ prefix_len plain.is_name_byte bytes.now }
