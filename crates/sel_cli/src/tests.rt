@@ -146,6 +146,172 @@ fn refusals_and_faults_are_told(rt: HostRuntime) -> Result<(), Fail> {
     Ok(())
 }
 
+const ATTRIBUTES: &str =
+    "%term ASGN=1 ADD=2 CNST=3 ADDR=4 INDIR=5\n%%\nstmt: ASGN(reg,reg) \"\" 1\nreg: ADD(reg,reg) \"\" 1\nreg: CNST \"\"\nreg: ADDR \"\"\nreg: INDIR(reg) \"\" 1\n";
+
+#[test]
+fn forests_with_attributes_and_their_faults(rt: HostRuntime) -> Result<(), Fail> {
+    let alloc = rt.alloc();
+    let good = Case {
+        grammar: ATTRIBUTES,
+        forest: " ASGN ( ADDR:x , ADD(INDIR(ADDR:y),CNST:-0) )\t\r\nASGN(CNST:-9223372036854775808,CNST:.L1)\nCNST:7",
+        out: "; tree 1 cost 3\n1 4 2 5 4 3\n; tree 2 cost 1\n1 3 3\n; tree 3 no cover\n",
+        status: Status::Uncovered,
+        ..PLAIN
+    };
+    ends(&rt, alloc, &good)?;
+    let refused = Case { out: "", ..good };
+    let cases = [
+        Case {
+            forest: "FOO(ADDR:x)",
+            err: "f:1:1: forest fault 2 UnknownOperator\n",
+            status: Status::BadForest(ForestFault {
+                kind: 2,
+                line: 1,
+                column: 1,
+            }),
+            ..refused
+        },
+        Case {
+            forest: "ADD(CNST:1)",
+            err: "f:1:11: forest fault 3 Arity\n",
+            status: Status::BadForest(ForestFault {
+                kind: 3,
+                line: 1,
+                column: 11,
+            }),
+            ..refused
+        },
+        Case {
+            forest: "INDIR",
+            err: "f:1:6: forest fault 3 Arity\n",
+            status: Status::BadForest(ForestFault {
+                kind: 3,
+                line: 1,
+                column: 6,
+            }),
+            ..refused
+        },
+        Case {
+            forest: "ADDR:x(CNST:1)",
+            err: "f:1:7: forest fault 3 Arity\n",
+            status: Status::BadForest(ForestFault {
+                kind: 3,
+                line: 1,
+                column: 7,
+            }),
+            ..refused
+        },
+        Case {
+            forest: "CNST:9223372036854775808",
+            err: "f:1:6: forest fault 4 NumberLarge\n",
+            status: Status::BadForest(ForestFault {
+                kind: 4,
+                line: 1,
+                column: 6,
+            }),
+            ..refused
+        },
+        Case {
+            forest: "CNST:1 CNST:2",
+            err: "f:1:8: forest fault 1 Token\n",
+            status: Status::BadForest(ForestFault {
+                kind: 1,
+                line: 1,
+                column: 8,
+            }),
+            ..refused
+        },
+        Case {
+            forest: "INDIR(ADDR:x",
+            err: "f:1:13: forest fault 1 Token\n",
+            status: Status::BadForest(ForestFault {
+                kind: 1,
+                line: 1,
+                column: 13,
+            }),
+            ..refused
+        },
+    ];
+    for case in &cases {
+        ends(&rt, alloc, case)?;
+    }
+    Ok(())
+}
+
+const ROW_GRAMMAR: &str = "%term X=1 U=2\n%%\na: U(a) \"\" 1\na: X \"\"\n";
+
+// `U(U(..X..))` with that many `U`.
+fn row_of(alloc: Global, count: usize) -> Result<String, Fail> {
+    let mut text = String::new(alloc);
+    for _ in 0..count {
+        text.push_str("U(")?;
+    }
+    text.push_str("X")?;
+    for _ in 0..count {
+        text.push_str(")")?;
+    }
+    Ok(text)
+}
+
+#[test]
+fn a_tree_may_be_as_deep_as_it_may_be_large(rt: HostRuntime) -> Result<(), Fail> {
+    let alloc = rt.alloc();
+    let mut out = String::from_str(alloc, "; tree 1 cost 65534\n")?;
+    for _ in 0..65_534 {
+        out.push_str("1 ")?;
+    }
+    out.push_str("2\n")?;
+    let deepest = row_of(alloc, 65_534)?;
+    let case = Case {
+        grammar: ROW_GRAMMAR,
+        forest: deepest.as_str(),
+        out: out.as_str(),
+        piece: 1_000_000,
+        ..PLAIN
+    };
+    ends(&rt, alloc, &case)?;
+    Ok(())
+}
+
+#[test]
+fn a_tree_that_is_too_deep_is_refused(rt: HostRuntime) -> Result<(), Fail> {
+    let alloc = rt.alloc();
+    let too_deep = row_of(alloc, 65_535)?;
+    let case = Case {
+        grammar: ROW_GRAMMAR,
+        forest: too_deep.as_str(),
+        out: "",
+        err: "f:1:131071: forest fault 5 TooDeep\n",
+        status: Status::BadForest(ForestFault {
+            kind: 5,
+            line: 1,
+            column: 131_071,
+        }),
+        ..PLAIN
+    };
+    ends(&rt, alloc, &case)?;
+    Ok(())
+}
+
+#[test]
+fn a_text_over_its_limit_is_too_big(rt: HostRuntime) -> Result<(), Fail> {
+    let alloc = rt.alloc();
+    let mut grammar = String::new(alloc);
+    for _ in 0..16_777_217 {
+        grammar.push_str("%")?;
+    }
+    let case = Case {
+        grammar: grammar.as_str(),
+        out: "",
+        err: "g is too big\n",
+        status: Status::TooBig,
+        ..PLAIN
+    };
+    ends(&rt, alloc, &case)?;
+    Ok(())
+}
+
 #[test]
 fn words_that_are_no_command(rt: HostRuntime) -> Result<(), Fail> {
     let alloc = rt.alloc();
