@@ -38,7 +38,15 @@ const PLAIN: Case<'static> = Case {
     status: Status::Done,
 };
 
-fn ends(rt: &(impl Abort + Threads + Sync), alloc: Global, case: &Case<'_>) -> Result<(), Fail> {
+// How the case ended, and what `out` and `err` took.
+#[derive(Drop)]
+struct End {
+    status: Status,
+    out: MemorySink,
+    err: MemorySink,
+}
+
+fn end_of(rt: &(impl Abort + Threads + Sync), alloc: Global, case: &Case<'_>) -> Result<End, Fail> {
     let mut words = Vec::new(alloc);
     for word in case.words {
         words.push(String::from_str(alloc, word)?)?;
@@ -50,9 +58,14 @@ fn ends(rt: &(impl Abort + Threads + Sync), alloc: Global, case: &Case<'_>) -> R
     let mut out = MemorySink::new(alloc, case.piece, case.puts)?;
     let mut err = MemorySink::new(alloc, 100, &[])?;
     let (status, _) = run(rt, alloc, &words, &mut shelf, &mut out, &mut err, &OpenGate);
-    assert_eq!(rt; status, case.status);
-    assert_eq!(rt; out.bytes(), case.out.as_bytes());
-    assert_eq!(rt; err.bytes(), case.err.as_bytes());
+    Ok(End { status, out, err })
+}
+
+fn ends(rt: &(impl Abort + Threads + Sync), alloc: Global, case: &Case<'_>) -> Result<(), Fail> {
+    let end = end_of(rt, alloc, case)?;
+    assert_eq!(rt; end.status, case.status);
+    assert_eq!(rt; end.out.bytes(), case.out.as_bytes());
+    assert_eq!(rt; end.err.bytes(), case.err.as_bytes());
     Ok(())
 }
 
@@ -266,11 +279,12 @@ fn a_tree_may_be_as_deep_as_it_may_be_large(rt: HostRuntime) -> Result<(), Fail>
     let case = Case {
         grammar: ROW_GRAMMAR,
         forest: deepest.as_str(),
-        out: out.as_str(),
         piece: 1_000_000,
         ..PLAIN
     };
-    ends(&rt, alloc, &case)?;
+    let end = end_of(&rt, alloc, &case)?;
+    assert_eq!(rt; end.status, Status::Done);
+    assert_eq!(rt; end.out.bytes(), out.as_str().as_bytes());
     Ok(())
 }
 

@@ -17,3 +17,4 @@ pub mod OneForest
 pub mod Faultless
 pub mod OneFault
 pub mod SomeAnswer
+pub mod SmallGrammars

@@ -143,3 +143,22 @@ returned_place = refl
 -- a last line feed ends the last line, and a blank line follows
 two_lines : lines_of (codes "A" ++ (10 ∷ [])) ≡ codes "A" ∷ [] ∷ []
 two_lines = refl
+
+-- the limits at a name: trees, then nodes, then the operator
+abbrev at_name : ℕ → ℕ → List ℕ → Option ℕ
+at_name trees names n = kind_of small trees (record { names = names; bare = None; parents = [] }) (Name n)
+
+last_tree : at_name 999999 0 (codes "ADDR") ≡ None
+last_tree = refl
+
+tree_too_many : at_name 1000000 0 (codes "FOO") ≡ Some 7
+tree_too_many = refl
+
+inside_last_tree : at_name 1000000 1 (codes "ADDR") ≡ None
+inside_last_tree = refl
+
+last_node : at_name 0 65534 (codes "ADDR") ≡ None
+last_node = refl
+
+node_too_many : at_name 0 65535 (codes "FOO") ≡ Some 6
+node_too_many = refl

@@ -18,3 +18,6 @@ pub use read::read_forest;
 pub use refusal::{ForestFault, ForestRefusal};
 pub use sel_grammar::Attribute;
 pub use walk::{Goal, fits_at, in_range, met, node_at, push_goals, rule_of};
+
+#[cfg(test)]
+mod tests;
