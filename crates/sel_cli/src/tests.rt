@@ -326,6 +326,79 @@ fn a_text_over_its_limit_is_too_big(rt: HostRuntime) -> Result<(), Fail> {
     Ok(())
 }
 
+const THREE_TREES: &str = "P(U(X),X)\nX\nU(X)\n";
+
+const THREE_ANSWERS: &str = "; tree 1 cost 3\n2 5 4 4\n; tree 2 no cover\n; tree 3 cost 5\n1 3\n";
+
+// The output has 63 bytes, so it takes eight puts of at most 8 bytes.
+#[test]
+fn a_put_that_fails_leaves_the_bytes_before_it(rt: HostRuntime) -> Result<(), Fail> {
+    let alloc = rt.alloc();
+    for taken in 0..8_usize {
+        let puts = [taken as u64 + 1];
+        let case = Case {
+            forest: THREE_TREES,
+            puts: &puts,
+            piece: 8,
+            ..PLAIN
+        };
+        let end = end_of(&rt, alloc, &case)?;
+        assert_eq!(rt; end.status, Status::WriteFault);
+        assert_eq!(rt;
+            Some(end.out.bytes()),
+            THREE_ANSWERS.as_bytes().get(..8 * taken)
+        );
+        assert_eq!(rt; end.err.bytes(), b"write fault\n".as_slice());
+    }
+    let puts = [9];
+    let case = Case {
+        forest: THREE_TREES,
+        puts: &puts,
+        piece: 8,
+        out: THREE_ANSWERS,
+        status: Status::Uncovered,
+        ..PLAIN
+    };
+    ends(&rt, alloc, &case)
+}
+
+#[test]
+fn a_read_that_fails_is_told_by_its_name(rt: HostRuntime) -> Result<(), Fail> {
+    let alloc = rt.alloc();
+    let cases = [
+        Case {
+            reads: &[1],
+            out: "",
+            err: "cannot read g\n",
+            status: Status::ReadFault,
+            ..PLAIN
+        },
+        Case {
+            reads: &[1, 2],
+            out: "",
+            err: "cannot read g\n",
+            status: Status::ReadFault,
+            ..PLAIN
+        },
+        Case {
+            reads: &[2],
+            out: "",
+            err: "cannot read f\n",
+            status: Status::ReadFault,
+            ..PLAIN
+        },
+        // There is no third read.
+        Case {
+            reads: &[3],
+            ..PLAIN
+        },
+    ];
+    for case in &cases {
+        ends(&rt, alloc, case)?;
+    }
+    Ok(())
+}
+
 #[test]
 fn words_that_are_no_command(rt: HostRuntime) -> Result<(), Fail> {
     let alloc = rt.alloc();

@@ -13,7 +13,7 @@ use Rattle.sel_forest.specs.Limits.{most_nodes, most_trees, greatest_depth}
 use Rattle.sel_forest.specs.Valid.{depth, Takes, IsOperatorOf, IsAttribute, IsOver}
 use Rattle.sel_forest.specs.Tokens.{Token, Open, Comma, Close, End, Spot, start, token_at, behind, first, after}
 use Rattle.sel_forest.specs.Form.{IsLine, blank}
-use Rattle.sel_forest.specs.TreeText.{number_of, SpellsAttribute, no_attribute, a_number, a_symbol, SpellsTree, no_kids, one_kid, two_kids, value_of, is_negative, without_sign}
+use Rattle.sel_forest.specs.TreeText.{operator_number, SpellsAttribute, no_attribute, a_number, a_symbol, SpellsTree, no_kids, one_kid, two_kids, value_of, is_negative, without_sign}
 use Rattle.sel_forest.specs.declared.faults.Parent.{Parent}
 use Rattle.sel_forest.specs.LineFaults.{Around, around_next, around_from, least_of, most_of, least_kids, most_kids, wants_some, takes_no_further, wants_another, has_wrong_arity, is_too_large, name_kind, unknown_kind, kind_of, without_first, with_whole_kid, HasFault, stray, wrong, HasFirstFault}
 use Rattle.sel_forest.specs.ForestText.{SpellsLine, IsBlankLine}
@@ -61,11 +61,11 @@ first_of_few trees (suc n) h = go (nat_le most_trees trees)
     go false = refl
 
 name_free : (g : Grammar) (trees : ℕ) (a : Around) (n : List ℕ) (operator : Operator) → (a.names ≡ 0 → trees < most_trees) → length a.parents < greatest_depth → a.names < most_nodes
-    → slice_get g.operators (number_of g n) ≡ Some operator → name_kind g trees a n ≡ None
+    → slice_get g.operators (operator_number g n) ≡ Some operator → name_kind g trees a n ≡ None
 name_free g trees a n operator few shallow small known =
-    ap (λ x. if x then Some limits.too_many_trees else (if nat_le greatest_depth (length a.parents) then Some limits.too_deep else (if nat_le most_nodes a.names then Some limits.too_many_nodes else unknown_kind (slice_get g.operators (number_of g n))))) (first_of_few trees a.names few)
-    ∙ ap (λ x. if x then Some limits.too_deep else (if nat_le most_nodes a.names then Some limits.too_many_nodes else unknown_kind (slice_get g.operators (number_of g n)))) (to_le greatest_depth (length a.parents) shallow)
-    ∙ ap (λ x. if x then Some limits.too_many_nodes else unknown_kind (slice_get g.operators (number_of g n))) (to_le most_nodes a.names small)
+    ap (λ x. if x then Some limits.too_many_trees else (if nat_le greatest_depth (length a.parents) then Some limits.too_deep else (if nat_le most_nodes a.names then Some limits.too_many_nodes else unknown_kind (slice_get g.operators (operator_number g n))))) (first_of_few trees a.names few)
+    ∙ ap (λ x. if x then Some limits.too_deep else (if nat_le most_nodes a.names then Some limits.too_many_nodes else unknown_kind (slice_get g.operators (operator_number g n)))) (to_le greatest_depth (length a.parents) shallow)
+    ∙ ap (λ x. if x then Some limits.too_many_nodes else unknown_kind (slice_get g.operators (operator_number g n))) (to_le most_nodes a.names small)
     ∙ ap unknown_kind known
 
 value_small : (bytes : List ℕ) → IsAttribute (attribute.Number (value_of bytes)) → is_too_large bytes ≡ false
@@ -98,12 +98,12 @@ free_tree : (g : Grammar) (trees : ℕ) (ts : List Token) (t : PlainTree) → Sp
     → length a.parents + depth t ≤ greatest_depth → a.names + size t ≤ most_nodes → Onward g trees a (size t) k → Free g trees a (ts ++ k)
 free_tree g trees _ _ (no_kids n x xs s) over a k few deep small next = (
   name_free g trees a n over.0.0 few (omega arith) (omega arith) over.0.1,
-  free_attribute g trees (record { names = a.names + 1; bare = Some (number_of g n); parents = a.parents }) xs k x s over.1
-      (next (record { names = a.names + 1; bare = Some (number_of g n); parents = a.parents }) refl refl
-      (to_lt 0 (least_kids g (number_of g n)) (bounds g (number_of g n) 0 over.0 (omega arith)).0)),
+  free_attribute g trees (record { names = a.names + 1; bare = Some (operator_number g n); parents = a.parents }) xs k x s over.1
+      (next (record { names = a.names + 1; bare = Some (operator_number g n); parents = a.parents }) refl refl
+      (to_lt 0 (least_kids g (operator_number g n)) (bounds g (operator_number g n) 0 over.0 (omega arith)).0)),
 )
 free_tree g trees _ _ (one_kid n x xs ts t s h) over a k few deep small next =
-    let op = number_of g n in
+    let op = operator_number g n in
     let b = bounds g op 1 over.0 (omega arith) in (
       name_free g trees a n over.0.0 few (omega arith) (omega arith) over.0.1,
       subst (Free g trees (record { names = a.names + 1; bare = Some op; parents = a.parents })) (sym (glue xs ts k))
@@ -117,7 +117,7 @@ free_tree g trees _ _ (one_kid n x xs ts t s h) over a k few deep small next =
     glue : (xs ts k : List Token) → (xs ++ (Open ∷ (ts ++ (Close ∷ [])))) ++ k ≡ xs ++ (Open ∷ (ts ++ (Close ∷ k)))
     glue xs ts k = simp append_assoc refl
 free_tree g trees _ _ (two_kids n x xs ts us t u s h h') over a k few deep small next =
-    let op = number_of g n in
+    let op = operator_number g n in
     let b = bounds g op 2 over.0 (omega arith) in (
       name_free g trees a n over.0.0 few (omega arith) (omega arith) over.0.1,
       subst (Free g trees (record { names = a.names + 1; bare = Some op; parents = a.parents })) (sym (glue xs ts us k))

@@ -3,7 +3,7 @@ use Rattle.std.proofs.Common.{◌≡◌, ℕ, List, [], ◌∷◌, ◌++◌, Opt
 use Rattle.std.specs.Prelude.{codes, pos, neg_ℤ}
 use Rattle.sel_grammar.specs.declared.grammar.Grammar.{Grammar}
 use Rattle.sel_forest.specs.Tokens.{Name, Number, Symbol, Colon, Open, Comma, Close, Bad, start, first, after, token_at, place, IsCutInto}
-use Rattle.sel_forest.specs.TreeText.{value_of, number_of}
+use Rattle.sel_forest.specs.TreeText.{value_of, operator_number}
 use Rattle.sel_forest.specs.LineFaults.{kind_of, around}
 use Rattle.sel_forest.specs.ForestText.{lines_of}
 use Rattle.sel_forest.specs.Machine.{run}
@@ -134,7 +134,7 @@ zero = refl
 leading : value_of (codes "-007") ≡ neg_ℤ (pos 7)
 leading = refl
 
-fourth : number_of small (codes "CNST") ≡ 3
+fourth : operator_number small (codes "CNST") ≡ 3
 fourth = refl
 
 returned_place : place (codes "CNST" ++ (13 ∷ [])) 1 ≡ 5

@@ -8,7 +8,7 @@ use Rattle.sel_forest.specs.declared.forest.Tree.{Tree}
 use Rattle.sel_forest.specs.Postorder.{postorder}
 use Rattle.sel_forest.specs.Tokens.{Token, Name, Number, Symbol, Open, Comma, Close, End, Spot, start, token_at, behind, first, IsCutInto}
 use Rattle.sel_forest.specs.Form.{Trees, no_trees, tree, below, attribute_tokens, IsAttributeToken, AreTrees, tokens_of, IsLine, blank, one_tree}
-use Rattle.sel_forest.specs.TreeText.{number_of, SpellsAttribute, no_attribute, a_number, a_symbol, SpellsTree, no_kids, one_kid, two_kids}
+use Rattle.sel_forest.specs.TreeText.{operator_number, SpellsAttribute, no_attribute, a_number, a_symbol, SpellsTree, no_kids, one_kid, two_kids}
 use Rattle.sel_forest.specs.OpenNodes.{Opened, Fresh, Half, Full, whole}
 use Rattle.sel_forest.specs.Machine.{step, run, go}
 use Rattle.sel_forest.specs.declared.line.State.{State}
@@ -85,9 +85,9 @@ abbrev Opens : Grammar → List Token → PlainTree → Type 0
 Opens g ts t = (os : List Opened) (k : List Token) → (o : Opened) × (whole o ≡ t) × (opened_from g os (ts ++ k) ≡ opened_from g (o ∷ os) k)
 
 opens_tree : (g : Grammar) (ts : List Token) (t : PlainTree) → SpellsTree g ts t → Opens g ts t
-opens_tree g _ _ (no_kids n a xs s) os k = (Fresh (number_of g n) a, refl, opens_attribute g (number_of g n) os xs k a s)
+opens_tree g _ _ (no_kids n a xs s) os k = (Fresh (operator_number g n) a, refl, opens_attribute g (operator_number g n) os xs k a s)
 opens_tree g _ _ (one_kid n a xs ts t s h) os k =
-    let op = number_of g n in
+    let op = operator_number g n in
     let x = opens_tree g ts t h (Fresh op a ∷ os) (Close ∷ k) in (
       Half op a (whole x.0),
       ap (Node1 op a) x.1,
@@ -97,7 +97,7 @@ opens_tree g _ _ (one_kid n a xs ts t s h) os k =
     one_kid_glue : (xs ts k : List Token) → (xs ++ (Open ∷ (ts ++ (Close ∷ [])))) ++ k ≡ xs ++ (Open ∷ (ts ++ (Close ∷ k)))
     one_kid_glue xs ts k = simp append_assoc refl
 opens_tree g _ _ (two_kids n a xs ts us t u s h h') os k =
-    let op = number_of g n in
+    let op = operator_number g n in
     let x = opens_tree g ts t h (Fresh op a ∷ os) (Comma ∷ (us ++ (Close ∷ k))) in
     let y = opens_tree g us u h' (Half op a (whole x.0) ∷ os) (Close ∷ k) in (
       Full op a (whole x.0) (whole y.0),

@@ -9,9 +9,9 @@ use Rattle.sel_grammar.specs.PlainTrees.{PlainTree, Node0, Node1, Node2, size}
 use Rattle.sel_forest.specs.Limits.{most_nodes, greatest_depth}
 use Rattle.sel_forest.specs.Valid.{depth, Takes, IsAttribute, IsOver}
 use Rattle.sel_forest.specs.Tokens.{Token, Name, Colon, Open, Comma, Close}
-use Rattle.sel_forest.specs.TreeText.{number_of, SpellsAttribute, SpellsTree, no_kids, one_kid, two_kids}
+use Rattle.sel_forest.specs.TreeText.{operator_number, SpellsAttribute, SpellsTree, no_kids, one_kid, two_kids}
 use Rattle.sel_forest.specs.LineFaults.{Around, least_of, most_of, least_kids, most_kids, takes_none, wants_some, takes_no_further, wants_another}
-use Rattle.sel_forest.specs.OpenNodes.{Opened, Fresh, Half, Full, operator_of, kid_count, whole, closed, parent_of, first_operator, bare_in, parents_in}
+use Rattle.sel_forest.specs.OpenNodes.{Opened, Fresh, Half, Full, opened_operator, kid_count, whole, closed, parent_of, first_operator, bare_in, parents_in}
 use Rattle.sel_forest.specs.Machine.{open_count}
 use Rattle.sel_forest.specs.declared.line.State.{State}
 use Rattle.sel_forest.specs.declared.line.State.TheVariants.{Start, Wanted, Named, Colonned, Attributed, Closed, Ended}
@@ -31,7 +31,7 @@ not_zero a h = grind arith
 
 -- The name and the attribute with which a node begins.
 pub record Begins (g : Grammar) (op : ℕ) (a : Attribute) (n : List ℕ) (xs : List Token) : Type 0 where
-  pub number : number_of g n ≡ op
+  pub number : operator_number g n ≡ op
   pub operator : Operator
   pub known : slice_get g.operators op ≡ Some operator
   pub attribute : SpellsAttribute xs a
@@ -63,7 +63,7 @@ abbrev pub ParentTexts : Grammar → List Opened → List Token → Type 0
 ParentTexts g [] ts = ts ≡ []
 ParentTexts g (o ∷ os) ts =
     (before : List Token) × (mine : List Token) × (ts ≡ before ++ mine) × ParentTexts g os before × ParentText g o mine
-    × (kid_count o < most_kids g (operator_of o)) × (length os + depth (whole o) ≤ greatest_depth)
+    × (kid_count o < most_kids g (opened_operator o)) × (length os + depth (whole o) ≤ greatest_depth)
 
 -- The innermost node has a name and no parenthesis.
 pub record Bare (g : Grammar) (os : List Opened) (ts xs : List Token) (x : Attribute) : Type 0 where
@@ -73,7 +73,7 @@ pub record Bare (g : Grammar) (os : List Opened) (ts xs : List Token) (x : Attri
   pub before : List Token
   pub os_are : os ≡ Fresh op x ∷ rest
   pub tokens : ts ≡ before ++ (Name n ∷ xs)
-  pub number : number_of g n ≡ op
+  pub number : operator_number g n ≡ op
   pub operator : Operator
   pub known : slice_get g.operators op ≡ Some operator
   pub outside : ParentTexts g rest before

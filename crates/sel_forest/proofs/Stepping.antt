@@ -11,10 +11,10 @@ use Rattle.sel_forest.specs.Limits as limits
 use Rattle.sel_forest.specs.Limits.{most_nodes, most_trees, greatest_depth}
 use Rattle.sel_forest.specs.Valid.{depth, IsAttribute, IsOver}
 use Rattle.sel_forest.specs.Tokens.{Token, Name, Number, Symbol, Colon, Open, Comma, Close, End}
-use Rattle.sel_forest.specs.TreeText.{number_of, SpellsAttribute, no_attribute, a_number, a_symbol, SpellsTree, value_of, is_negative, without_sign}
+use Rattle.sel_forest.specs.TreeText.{operator_number, SpellsAttribute, no_attribute, a_number, a_symbol, SpellsTree, value_of, is_negative, without_sign}
 use Rattle.sel_forest.specs.LineFaults.{Around, around_next, wants_some, takes_no_further, wants_another, has_wrong_arity, is_too_large, name_kind, unknown_kind, kind_of, with_parent, with_whole_kid, without_first}
 use Rattle.sel_forest.specs.declared.faults.Parent.{Parent}
-use Rattle.sel_forest.specs.OpenNodes.{Opened, Fresh, Half, Full, operator_of, whole, closed, with_attribute, opened_next, parent_of, first_operator, behind_first, IsClosable, TakesToken}
+use Rattle.sel_forest.specs.OpenNodes.{Opened, Fresh, Half, Full, opened_operator, whole, closed, with_attribute, opened_next, parent_of, first_operator, behind_first, IsClosable, TakesToken}
 use Rattle.sel_forest.specs.Pieces.{IsLawful}
 use Rattle.sel_forest.specs.Machine.{after_tree, step}
 use Rattle.sel_forest.specs.declared.line.State.{State}
@@ -27,7 +27,7 @@ pub record NameIsRight (g : Grammar) (trees : ℕ) (a : Around) (n : List ℕ) :
   pub shallow : length a.parents < greatest_depth
   pub few : a.names < most_nodes
   pub operator : Operator
-  pub known : slice_get g.operators (number_of g n) ≡ Some operator
+  pub known : slice_get g.operators (operator_number g n) ≡ Some operator
 
 if_none : (b : Bool) (k : ℕ) (o : Option ℕ) → (if b then Some k else o) ≡ None → (b ≡ false) × (o ≡ None)
 if_none true k o h = absurd cc
@@ -42,7 +42,7 @@ name_right g trees a n h =
     let x = if_none _ _ _ h in
     let y = if_none _ _ _ x.1 in
     let z = if_none _ _ _ y.1 in
-    let k = known_of (slice_get g.operators (number_of g n)) z.1 in
+    let k = known_of (slice_get g.operators (operator_number g n)) z.1 in
     record { few_trees = x.0; shallow = not_le greatest_depth (length a.parents) y.0; few = not_le most_nodes a.names z.0; operator = k.0; known = k.1 }
 
 -- Where the line ends: nothing was read, or one tree.
@@ -68,7 +68,7 @@ name_moves g trees d a os ts n texts parents deep names h =
       takes = tt;
       on = λ _. record {
         reads = record {
-          op = number_of g n;
+          op = operator_number g n;
           n = n;
           rest = os;
           before = ts;
@@ -196,7 +196,7 @@ open_moves g d a os ts xs x spelled lawful b bare parents deep names few w =
 
 closable : (g : Grammar) → HasPairsAtMost g → (o : Opened) (rest : List Opened) (before : List Token) → ParentTexts g rest before → 0 < length rest → IsClosable (o ∷ rest)
 closable g two o [] before texts some = absurd (omega arith)
-closable g two o (p ∷ rest) before (out, own, e, outer, text, count, far) some = let k = two (operator_of p) in omega arith
+closable g two o (p ∷ rest) before (out, own, e, outer, text, count, far) some = let k = two (opened_operator p) in omega arith
 
 kid_parents : (o : Opened) (rest : List Opened) → IsClosable (o ∷ rest) → with_whole_kid (map parent_of rest) ≡ map parent_of (closed (o ∷ rest))
 kid_parents o [] h = absurd h

@@ -8,7 +8,7 @@ use Rattle.sel_forest.specs.Limits as limits
 use Rattle.sel_forest.specs.Limits.{most_trees, most_nodes, greatest_depth}
 use Rattle.sel_forest.specs.Tokens.{Token, Name, Number, Open, Comma, Close, End, first, after, start, token_at, place}
 use Rattle.sel_forest.specs.Form.{IsLine, GoesOn}
-use Rattle.sel_forest.specs.TreeText.{number_of, is_negative, without_sign}
+use Rattle.sel_forest.specs.TreeText.{operator_number, is_negative, without_sign}
 
 -- What surrounds the place behind some tokens: how many names came, the operator that came last if no parenthesis
 -- followed it, and the parents there, the innermost first.
@@ -30,7 +30,7 @@ without_first [] = []
 without_first (p ∷ ps) = ps
 
 abbrev pub around_next : Grammar → Around → Token → Around
-around_next g a (Name n) = record { names = a.names + 1; bare = Some (number_of g n); parents = a.parents }
+around_next g a (Name n) = record { names = a.names + 1; bare = Some (operator_number g n); parents = a.parents }
 around_next g a Open = record { names = a.names; bare = None; parents = with_parent a.bare a.parents }
 around_next g a Comma = record { names = a.names; bare = None; parents = with_whole_kid a.parents }
 around_next g a Close = record { names = a.names; bare = None; parents = without_first a.parents }
@@ -101,7 +101,7 @@ name_kind g trees a n =
     if nat_le most_trees trees && (a.names == 0) then Some limits.too_many_trees
     else (if nat_le greatest_depth (length a.parents) then Some limits.too_deep
     else (if nat_le most_nodes a.names then Some limits.too_many_nodes
-    else unknown_kind (slice_get g.operators (number_of g n))))
+    else unknown_kind (slice_get g.operators (operator_number g n))))
 
 -- what is wrong with a token with which some line of the form goes on
 abbrev pub kind_of : Grammar → ℕ → Around → Token → Option ℕ

@@ -10,7 +10,7 @@ use Rattle.sel_forest.specs.declared.line.State.TheVariants.{Named, Colonned, At
 use Rattle.sel_forest.specs.declared.faults.Parent.{Parent}
 use Rattle.sel_forest.specs.Postorder.{postorder}
 use Rattle.sel_forest.specs.Tokens.{Token, Name, Number, Symbol, Comma, Close}
-use Rattle.sel_forest.specs.TreeText.{number_of, value_of}
+use Rattle.sel_forest.specs.TreeText.{operator_number, value_of}
 use Rattle.sel_forest.specs.LineFaults.{is_too_large}
 
 -- an open node with the kids that are whole: none, one or two
@@ -19,10 +19,10 @@ pub data Opened : Type 0 where
   Half : (op : ℕ) (a : Attribute) (t : PlainTree) → Opened
   Full : (op : ℕ) (a : Attribute) (t u : PlainTree) → Opened
 
-abbrev pub operator_of : Opened → ℕ
-operator_of (Fresh op a) = op
-operator_of (Half op a t) = op
-operator_of (Full op a t u) = op
+abbrev pub opened_operator : Opened → ℕ
+opened_operator (Fresh op a) = op
+opened_operator (Half op a t) = op
+opened_operator (Full op a t u) = op
 
 abbrev pub kid_count : Opened → ℕ
 kid_count (Fresh op a) = 0
@@ -81,7 +81,7 @@ with_attribute x (Full op a t u ∷ os) = Full op x t u ∷ os
 
 -- A name opens a node, an attribute belongs to the innermost, and a comma or a closing parenthesis ends it.
 abbrev pub opened_next : Grammar → List Opened → Token → List Opened
-opened_next g os (Name n) = Fresh (number_of g n) attribute.Absent ∷ os
+opened_next g os (Name n) = Fresh (operator_number g n) attribute.Absent ∷ os
 opened_next g os (Number bytes) = with_attribute (attribute.Number (value_of bytes)) os
 opened_next g os (Symbol bytes) = with_attribute (attribute.Symbol bytes) os
 opened_next g os Comma = closed os
@@ -111,11 +111,11 @@ pub record Holds (os : List Opened) (stack nodes : List Node) : Type 0 where
 -- and the parents.
 
 abbrev pub parent_of : Opened → Parent
-parent_of o = record { operator = operator_of o; kids = kid_count o }
+parent_of o = record { operator = opened_operator o; kids = kid_count o }
 
 abbrev pub first_operator : List Opened → Option ℕ
 first_operator [] = None
-first_operator (o ∷ os) = Some (operator_of o)
+first_operator (o ∷ os) = Some (opened_operator o)
 
 abbrev pub behind_first : List Opened → List Opened
 behind_first [] = []

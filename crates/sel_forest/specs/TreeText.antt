@@ -9,8 +9,8 @@ use Rattle.sel_grammar.specs.PlainTrees.{PlainTree, Node0, Node1, Node2}
 use Rattle.sel_forest.specs.Tokens.{Token, Name, Number, Symbol, Colon, Open, Comma, Close}
 
 -- the number of the operator with this name, or the number of operators where there is none
-abbrev pub number_of : Grammar → List ℕ → ℕ
-number_of g name = prefix_len (λ operator. not (bytes_eq operator.name name)) g.operators
+abbrev pub operator_number : Grammar → List ℕ → ℕ
+operator_number g name = prefix_len (λ operator. not (bytes_eq operator.name name)) g.operators
 
 abbrev pub is_negative : List ℕ → Bool
 is_negative [] = false
@@ -32,8 +32,8 @@ pub data SpellsAttribute : List Token → Attribute → Type 0 where
 
 -- The tokens spell the tree: a name and its attribute, and behind them the kids, if any, between parentheses.
 pub data SpellsTree (g : Grammar) : List Token → PlainTree → Type 0 where
-  no_kids : (n : List ℕ) (a : Attribute) (xs : List Token) → SpellsAttribute xs a → SpellsTree g (Name n ∷ xs) (Node0 (number_of g n) a)
+  no_kids : (n : List ℕ) (a : Attribute) (xs : List Token) → SpellsAttribute xs a → SpellsTree g (Name n ∷ xs) (Node0 (operator_number g n) a)
   one_kid : (n : List ℕ) (a : Attribute) (xs ts : List Token) (t : PlainTree) → SpellsAttribute xs a → SpellsTree g ts t
-      → SpellsTree g (Name n ∷ (xs ++ (Open ∷ (ts ++ (Close ∷ []))))) (Node1 (number_of g n) a t)
+      → SpellsTree g (Name n ∷ (xs ++ (Open ∷ (ts ++ (Close ∷ []))))) (Node1 (operator_number g n) a t)
   two_kids : (n : List ℕ) (a : Attribute) (xs ts us : List Token) (t u : PlainTree) → SpellsAttribute xs a → SpellsTree g ts t → SpellsTree g us u
-      → SpellsTree g (Name n ∷ (xs ++ (Open ∷ (ts ++ (Comma ∷ (us ++ (Close ∷ []))))))) (Node2 (number_of g n) a t u)
+      → SpellsTree g (Name n ∷ (xs ++ (Open ∷ (ts ++ (Comma ∷ (us ++ (Close ∷ []))))))) (Node2 (operator_number g n) a t u)

@@ -4,7 +4,7 @@ ghost use Rattle.std.specs.Prelude.{◌≡◌, ℕ, List, [], ◌∷◌, ◌++�
 ghost use Rattle.sel_forest.specs.OpenNodes.{attached, Opened, opened_next, Holds, TakesToken};
 ghost use Rattle.sel_forest.specs.Pieces.{view, IsLawful};
 
-use crate::faults::number_of;
+use crate::faults::operator_number;
 use crate::forest::{Node, Tree};
 use crate::number::number;
 use crate::tokens::Piece;
@@ -74,7 +74,7 @@ pub fn take(
     match piece {
         Piece::Name(name) => {
             stack.push(Node {
-                operator: number_of(grammar, name) as u8,
+                operator: operator_number(grammar, name) as u8,
                 kids: 0,
                 left: 0,
                 right: 0,

@@ -8,7 +8,7 @@ ghost use Rattle.sel_forest.specs.LineFaults.{Around};
 ghost use Rattle.sel_forest.specs.OpenNodes.{Opened, own_nodes, put_down, bare_in, parents_in, parent_of, behind_first, first_parent};
 ghost use Rattle.sel_forest.specs.Pieces.{view, IsLawful};
 ghost use Rattle.sel_forest.specs.Surroundings.{Meets};
-ghost use Rattle.sel_forest.specs.TreeText.{number_of};
+ghost use Rattle.sel_forest.specs.TreeText.{operator_number};
 
 use crate::forest::Node;
 use crate::limits::{
@@ -45,8 +45,8 @@ fn is_named(operator: &Operator, name: &[u8]) -> bool
 }
 
 /// The number of the operator with this name, or the number of operators.
-pub fn number_of(grammar: &Grammar, name: &[u8]) -> usize
-    ensures number { result ≡ number_of grammar.now name.now }
+pub fn operator_number(grammar: &Grammar, name: &[u8]) -> usize
+    ensures number { result ≡ operator_number grammar.now name.now }
     ensures fits { result ≤ length grammar.now.operators }
 {
     let operators = grammar.operators.as_slice();
@@ -137,7 +137,11 @@ fn name_kind(grammar: &Grammar, trees: usize, place: Surroundings, name: &[u8]) 
         Some(TOO_DEEP)
     } else if place.names >= MOST_NODES {
         Some(TOO_MANY_NODES)
-    } else if grammar.operators.get(number_of(grammar, name)).is_none() {
+    } else if grammar
+        .operators
+        .get(operator_number(grammar, name))
+        .is_none()
+    {
         Some(UNKNOWN_OPERATOR)
     } else {
         None

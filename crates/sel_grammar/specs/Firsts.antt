@@ -1,4 +1,4 @@
--- The best derivations by an order of lists that proofs go on with: lists of one tree's derivations are equal or differ at a place.
+-- Best derivations by lists that differ at a place. Lists of one tree's derivations are equal or differ at a place, so what is first here is best (`IsBest-first` in proofs/Firsts.antt); this form goes through sums and tails.
 use Rattle.std.specs.Prelude.{◌≡◌, ℕ, ◌<◌, ◌⊎◌, Some, List, [], ◌∷◌}
 use Rattle.sel_grammar.specs.declared.grammar.Grammar.{Grammar}
 use Rattle.sel_grammar.specs.declared.grammar.Rule.{Rule}

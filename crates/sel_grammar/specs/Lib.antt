@@ -6,7 +6,6 @@ pub mod Best
 pub mod Firsts
 pub mod Chains
 pub mod Laws
-pub mod Expansions
 pub mod Limits
 pub mod Names
 pub mod PlainText

@@ -13,7 +13,7 @@ use Rattle.sel_grammar.proofs.CostLaws.{cheaper_or_not, cheaper_same, same_cheap
 use Rattle.sel_forest.specs.declared.forest.Node.{Node}
 use Rattle.sel_plain.specs.declared.entry.Entry.{Entry}
 use Rattle.sel_plain.specs.CostBounds.{IsUpTo, IsNoDearer, cost_place, per_tree}
-use Rattle.sel_plain.specs.Rows.{Row, entry_at, cost_of}
+use Rattle.sel_plain.specs.Rows.{Row, entry_at, entry_cost}
 use Rattle.sel_plain.specs.Offers.{offered, offered_by}
 use Rattle.sel_plain.proofs.Patterns.{operator_kind}
 use Rattle.sel_forest.proofs.Matching.{some_same}
@@ -112,12 +112,12 @@ module _ (nodes : List Node) (rows : List Row) (row : Row) (i : ℕ) (k : Cost) 
   ByIs p = ((m : ℕ) × (e : Entry) × (p ≡ Leaf m) × (entry_at row m ≡ Some e) × (k ≡ e.cost) × ((new : Row) (f : Entry) → entry_at new m ≡ Some f → offered_by p nodes rows new i ≡ Some (f.cost)))
       ⊎ (((m : ℕ) → p ≡ Leaf m → ⊥) × ((new : Row) → offered_by p nodes rows new i ≡ Some k))
 
-  cost_some : (o : Option Entry) → cost_of o ≡ Some k → (e : Entry) × (o ≡ Some e) × (k ≡ e.cost)
+  cost_some : (o : Option Entry) → entry_cost o ≡ Some k → (e : Entry) × (o ≡ Some e) × (k ≡ e.cost)
   cost_some None h = cc
   cost_some (Some e) h = (e, refl, sym (some_same h))
 
   by_is : (p : Pattern) → offered_by p nodes rows row i ≡ Some k → ByIs p
-  by_is (Leaf m) h = let s = cost_some (entry_at row m) h in inl (m, s.0, refl, s.1, s.2, λ new f e. ap cost_of e)
+  by_is (Leaf m) h = let s = cost_some (entry_at row m) h in inl (m, s.0, refl, s.1, s.2, λ new f e. ap entry_cost e)
   by_is (Nullary o) h = inr (λ m e. cc, λ new. h)
   by_is (Unary' o s (more_of-Pattern p end_of-Pattern)) h = inr (λ m e. cc, λ new. h)
   by_is (Binary' o s (more_of-Pattern p end_of-Pattern) s' (more_of-Pattern q end_of-Pattern)) h = inr (λ m e. cc, λ new. h)

@@ -21,13 +21,13 @@ use Rattle.sel_grammar.proofs.Ranks.{FreeRanks, free_ranks}
 use Rattle.sel_grammar.specs.Chains.{HasNoFreeCycle}
 use Rattle.sel_forest.specs.declared.forest.Node.{Node}
 use Rattle.sel_plain.specs.declared.entry.Entry.{Entry}
-use Rattle.sel_plain.specs.Rows.{Row, entry_at, cost_of}
+use Rattle.sel_plain.specs.Rows.{Row, entry_at, entry_cost}
 use Rattle.sel_plain.specs.Offers.{offered, offered_by, kids_cost}
 use Rattle.sel_plain.specs.BestRows.{IsBestEntry, IsBestRow, AreBestRows}
 use Rattle.sel_forest.specs.Places.{IsRootAt}
 use Rattle.sel_plain.specs.Bettering.{IsNoLater, offer_entry, Withstands, KindWithstood, count_to, IsBacked, AllBacked, OperatorOffers}
 use Rattle.sel_plain.specs.declared.kind.RuleKind.{RuleKind}
-use Rattle.sel_plain.specs.Kinds.{kind_of}
+use Rattle.sel_plain.specs.Kinds.{rule_kind}
 use Rattle.sel_plain.proofs.Patterns.{not_leaf}
 use Rattle.sel_forest.proofs.Roots.{size_some}
 use Rattle.sel_forest.proofs.Lying.{root_at}
@@ -126,7 +126,7 @@ module _ (g : Grammar) (nodes : List Node) (rows : List Row) (i : ℕ) (t : Plai
           let firsts : AllFirst g w.kids (leaves rule.pattern) o.subtrees = subst (λ x. AllFirst g w.kids (leaves rule.pattern) x) (some_same (sym w.lies ∙ e)) w.firsts in
           ap (λ (x : Cost). Some x) (w.is ∙ same_costs g w.kids ds (leaves rule.pattern) o.subtrees firsts o.firsts ∙ sym o.is)
 
-  offered_chain : (row : Row) (rule : Rule) (m : ℕ) → IsChain t rule m → offered rule nodes rows row i ≡ cost_of (entry_at row m)
+  offered_chain : (row : Row) (rule : Rule) (m : ℕ) → IsChain t rule m → offered rule nodes rows row i ≡ entry_cost (entry_at row m)
   offered_chain row rule m c =
       offered_is nodes rows row i t rule root ∙ ap (λ b. if b then offered_by rule.pattern nodes rows row i else None) (fitting_parts rule (t ∷ []) c.fitting).0
       ∙ ap (λ p. offered_by p nodes rows row i) c.chain
@@ -162,7 +162,7 @@ module _ (g : Grammar) (nodes : List Node) (rows : List Row) (i : ℕ) (t : Plai
   kids_small : (rule : Rule) (k : Cost) → offered rule nodes rows row i ≡ Some k → IsUpTo (per_node * size t) k
   kids_small rule k h = go (chain_or_not rule.pattern)
     where
-      held : (m : ℕ) (o : Option Entry) → entry_at row m ≡ o → cost_of o ≡ Some k → IsUpTo (per_node * size t) k
+      held : (m : ℕ) (o : Option Entry) → entry_at row m ≡ o → entry_cost o ≡ Some k → IsUpTo (per_node * size t) k
       held m None e q = absurd (some_none (sym q))
       held m (Some e) at q =
           let f = few e.cost in
@@ -176,7 +176,7 @@ module _ (g : Grammar) (nodes : List Node) (rows : List Row) (i : ℕ) (t : Plai
           tested true e = e
           tested false e = absurd (some_none (sym e))
 
-          chain_cost : (m : ℕ) → rule.pattern ≡ Leaf m → cost_of (entry_at row m) ≡ Some k
+          chain_cost : (m : ℕ) → rule.pattern ≡ Leaf m → entry_cost (entry_at row m) ≡ Some k
           chain_cost m p = ap (λ q. offered_by q nodes rows row i) (sym p) ∙ tested (in_range rule.range (attribute_of t)) (sym (offered_is nodes rows row i t rule root) ∙ h)
       go (inr op) = IsUpTo-wider (per_node * (size t - 1)) _ k (omega arith) (operator_offer g nodes rows i t low root small row rule k op h).1
 
@@ -184,7 +184,7 @@ module _ (g : Grammar) (nodes : List Node) (rows : List Row) (i : ℕ) (t : Plai
   stable_at : (r : ℕ) (rule : Rule) (k : Cost) → rule_at g r ≡ Some rule → offered rule nodes rows row i ≡ Some k
       → (e : Entry) × (entry_at row rule.left ≡ Some e) × NoLater e.cost e.rule (price rule ⊕ k) r
   stable_at zero rule k at h = absurd (some_none (sym at))
-  stable_at (suc j) rule k at h = go (entry_at row rule.left) refl (subst (λ x. Withstands (entry_at row rule.left) x rule (j + 1)) h (still (kind_of rule.pattern) j rule at refl))
+  stable_at (suc j) rule k at h = go (entry_at row rule.left) refl (subst (λ x. Withstands (entry_at row rule.left) x rule (j + 1)) h (still (rule_kind rule.pattern) j rule at refl))
     where
       later : (e : Entry) → IsUpTo greatest_cost (price rule) → IsUpTo (per_node * size t) k → IsNoLater e (offer_entry rule (j + 1) k) → NoLater e.cost e.rule (price rule ⊕ k) (suc j)
       later e cheap low w = pick (subst (λ c. IsNoLater e (record { cost = c; rule = j + 1 })) (capped_exact greatest_cost (per_node * size t) (price rule) k cheap low (omega arith)) w)
@@ -201,7 +201,7 @@ module _ (g : Grammar) (nodes : List Node) (rows : List Row) (i : ℕ) (t : Plai
   offer_of rule c (inl (ds, o)) = offered_operator g nodes rows i t low root small row rule ds c o
   offer_of rule c (inr (m, ch, (s, em))) =
       let e = entry_of (entry_at row m) c s em in
-      offered_chain g nodes rows i t low root small row rule m ch ∙ ap cost_of e.1 ∙ ap (λ (x : Cost). Some x) e.2
+      offered_chain g nodes rows i t low root small row rule m ch ∙ ap entry_cost e.1 ∙ ap (λ (x : Cost). Some x) e.2
 
   stable : (r : ℕ) (rule : Rule) (c : Cost) → rule_at g r ≡ Some rule → Offer g t told_row rule c → (a : Cost) × (s : ℕ) × (told_row rule.left ≡ Some (a, s)) × NoLater a s (price rule ⊕ c) r
   stable r rule c at o =
@@ -225,7 +225,7 @@ module _ (g : Grammar) (nodes : List Node) (rows : List Row) (i : ℕ) (t : Plai
   offer_by : (rule : Rule) (k : Cost) → offered rule nodes rows row i ≡ Some k → Offer g t told_row rule k
   offer_by rule k h = go (chain_or_not rule.pattern)
     where
-      chain : (m : ℕ) (o : Option Entry) → rule.pattern ≡ Leaf m → entry_at row m ≡ o → cost_of o ≡ Some k → IsChain t rule m → Offer g t told_row rule k
+      chain : (m : ℕ) (o : Option Entry) → rule.pattern ≡ Leaf m → entry_at row m ≡ o → entry_cost o ≡ Some k → IsChain t rule m → Offer g t told_row rule k
       chain m None p at q c = absurd (some_none (sym q))
       chain m (Some e) p at q c = inr (m, c, (e.rule, ap told_by at ∙ ap (λ (x : Cost). entry x e.rule) (some_same q)))
 
@@ -258,7 +258,7 @@ module _ (g : Grammar) (nodes : List Node) (rows : List Row) (i : ℕ) (t : Plai
       free left (inl z) = inl (ranks.falls r n m (record { rule = rule; numbered = at; left = left; chain = ch.chain; free = z }))
       free left (inr z) = inr z
 
-      go : (e : Entry) (k : Cost) (o : Option Entry) → entry_at row m ≡ o → entry_at row n ≡ Some e → cost_of o ≡ Some k → e.cost ≡ price rule ⊕ k → rule.left ≡ n → rank m < rank n
+      go : (e : Entry) (k : Cost) (o : Option Entry) → entry_at row m ≡ o → entry_at row n ≡ Some e → entry_cost o ≡ Some k → e.cost ≡ price rule ⊕ k → rule.left ≡ n → rank m < rank n
       go e k None p q c x left = absurd (some_none (sym c))
       go e k (Some f) p q c x left =
           let y : f.cost ≡ k = some_same c in

@@ -18,7 +18,7 @@ use Rattle.sel_plain.proofs.CostBoundLaws.{capped_exact, IsUpTo-wider, IsUpTo-sa
 use Rattle.sel_grammar.specs.Firsts.{AllFirst}
 use Rattle.sel_forest.specs.declared.forest.Node.{Node}
 use Rattle.sel_plain.specs.declared.entry.Entry.{Entry}
-use Rattle.sel_plain.specs.Rows.{Row, entry_at, row_at, cost_of}
+use Rattle.sel_plain.specs.Rows.{Row, entry_at, row_at, entry_cost}
 use Rattle.sel_plain.specs.Offers.{both_costs, kids_cost}
 use Rattle.sel_forest.proofs.Matching.{some_same, some_none}
 use Rattle.sel_plain.proofs.Entries.{same_or_other}
@@ -49,7 +49,7 @@ one_kid : (g : Grammar) (es : Derivations) (n : ℕ) (t : PlainTree) → DeriveA
 one_kid g no_more n t h = absurd h
 one_kid g (more e es) n t h = (e, h.0)
 
-IsKidsCost-entry : (g : Grammar) (n : ℕ) (t : PlainTree) (o : Option Entry) → IsBestEntry g n t o → IsKidsCost g (Leaf n) t (size t) (cost_of o)
+IsKidsCost-entry : (g : Grammar) (n : ℕ) (t : PlainTree) (o : Option Entry) → IsBestEntry g n t o → IsKidsCost g (Leaf n) t (size t) (entry_cost o)
 IsKidsCost-entry g n t None h =
     λ ts e es all. let k = one_kid g es n t (subst (λ x. DeriveAll g es (n ∷ []) x) (sym (some_same e)) all) in h k.0 k.1
 IsKidsCost-entry g n t (Some e) h =

@@ -8,7 +8,7 @@ use denote.Hole.Carrier.{hidden}
 use Rattle.sel_grammar.specs.Costs.{Cost}
 use Rattle.sel_forest.specs.declared.forest.Node.{Node}
 use Rattle.sel_plain.specs.declared.kind.RuleKind.TheVariants.{Operator, Chain}
-use Rattle.sel_plain.specs.Kinds.{kind_of}
+use Rattle.sel_plain.specs.Kinds.{rule_kind}
 use Rattle.sel_plain.specs.Rows.{Row}
 use Rattle.sel_plain.specs.Offers.{kids_cost, both_costs, offered_by}
 use Rattle.sel_forest.specs.Places.{met}
@@ -50,21 +50,21 @@ offered_by_binary op p q nodes rows row i = refl
 
 pub ruleset offer_cases = (offered_by_nullary, offered_by_unary, offered_by_binary)
 
-pub kind_nullary : (op : ℕ) → kind_of (Nullary op) ≡ Operator
+pub kind_nullary : (op : ℕ) → rule_kind (Nullary op) ≡ Operator
 kind_nullary op = refl
 
-pub kind_unary : (op : ℕ) (p : Boxed Pattern) → kind_of (Unary op p) ≡ Operator
+pub kind_unary : (op : ℕ) (p : Boxed Pattern) → rule_kind (Unary op p) ≡ Operator
 kind_unary op p = refl
 
-pub kind_binary : (op : ℕ) (p q : Boxed Pattern) → kind_of (Binary op p q) ≡ Operator
+pub kind_binary : (op : ℕ) (p q : Boxed Pattern) → rule_kind (Binary op p q) ≡ Operator
 kind_binary op p q = refl
 
 pub ruleset kind_cases = (kind_nullary, kind_unary, kind_binary)
 
-pub not_leaf : (p : Pattern) → kind_of p ≡ Operator → (m : ℕ) → p ≡ Leaf m → ⊥
-not_leaf p h m q = let k : Chain ≡ Operator = ap kind_of (sym q) ∙ h in cc
+pub not_leaf : (p : Pattern) → rule_kind p ≡ Operator → (m : ℕ) → p ≡ Leaf m → ⊥
+not_leaf p h m q = let k : Chain ≡ Operator = ap rule_kind (sym q) ∙ h in cc
 
-pub operator_kind : (p : Pattern) → ((m : ℕ) → p ≡ Leaf m → ⊥) → kind_of p ≡ Operator
+pub operator_kind : (p : Pattern) → ((m : ℕ) → p ≡ Leaf m → ⊥) → rule_kind p ≡ Operator
 operator_kind (Leaf n) h = absurd (h n refl)
 operator_kind (Nullary op) h = refl
 operator_kind (Unary' op s p) h = refl

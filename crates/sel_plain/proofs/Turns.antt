@@ -11,7 +11,7 @@ use Rattle.sel_forest.specs.declared.forest.Node.{Node}
 use Rattle.sel_plain.specs.declared.entry.Entry.{Entry}
 use Rattle.sel_plain.specs.declared.kind.RuleKind.{RuleKind}
 use Rattle.sel_plain.specs.declared.kind.RuleKind.TheVariants.{Operator, Chain}
-use Rattle.sel_plain.specs.Kinds.{kind_of}
+use Rattle.sel_plain.specs.Kinds.{rule_kind}
 use Rattle.sel_plain.specs.Rows.{Row, entry_at}
 use Rattle.sel_plain.specs.Offers.{offered, offered_by}
 use Rattle.sel_plain.specs.Bettering.{Withstands, KindWithstood, IsBettered, Keeps, total_distance, KeepsBacked, offer_entry}
@@ -19,13 +19,13 @@ use Rattle.sel_forest.proofs.Matching.{some_same}
 use Rattle.sel_plain.proofs.Betters.{AllBacked-bettered, Keeps-bettered, new_same, no_later_self, no_later_trans}
 
 -- what a rule with an operator offers doesn't depend on the row
-by_apart : (p : Pattern) (nodes : List Node) (rows : List Row) (row new : Row) (i : ℕ) → kind_of p ≡ Operator → offered_by p nodes rows row i ≡ offered_by p nodes rows new i
+by_apart : (p : Pattern) (nodes : List Node) (rows : List Row) (row new : Row) (i : ℕ) → rule_kind p ≡ Operator → offered_by p nodes rows row i ≡ offered_by p nodes rows new i
 by_apart (Leaf m) nodes rows row new i h = cc
 by_apart (Nullary op) nodes rows row new i h = refl
 by_apart (Unary' op s p) nodes rows row new i h = refl
 by_apart (Binary' op s p s' q) nodes rows row new i h = refl
 
-offered_apart : (rule : Rule) (nodes : List Node) (rows : List Row) (row new : Row) (i : ℕ) → kind_of rule.pattern ≡ Operator → offered rule nodes rows row i ≡ offered rule nodes rows new i
+offered_apart : (rule : Rule) (nodes : List Node) (rows : List Row) (row new : Row) (i : ℕ) → rule_kind rule.pattern ≡ Operator → offered rule nodes rows row i ≡ offered rule nodes rows new i
 offered_apart rule nodes rows row new i h = go (slice_get nodes i)
   where
     go : (o : Option Node) → option_and_then (λ (node : Node). if in_range rule.range node.attribute then offered_by rule.pattern nodes rows row i else None) o ≡ option_and_then (λ (node : Node). if in_range rule.range node.attribute then offered_by rule.pattern nodes rows new i else None) o
@@ -45,10 +45,10 @@ withstands_still rule r (Some c) old new keeps w = go (entry_at old rule.left) r
 module _ (g : Grammar) (nodes : List Node) (rows : List Row) (i : ℕ) where
   -- the offers of the first rules, as far as they are of a kind, are withstood
   abbrev pub KindTo : RuleKind → ℕ → Row → Type 0
-  KindTo kind k row = (j : ℕ) (rule : Rule) → j < k → slice_get g.rules j ≡ Some rule → kind_of rule.pattern ≡ kind → Withstands (entry_at row rule.left) (offered rule nodes rows row i) rule (j + 1)
+  KindTo kind k row = (j : ℕ) (rule : Rule) → j < k → slice_get g.rules j ≡ Some rule → rule_kind rule.pattern ≡ kind → Withstands (entry_at row rule.left) (offered rule nodes rows row i) rule (j + 1)
 
   pub KindTo-more : (kind : RuleKind) (k : ℕ) (row : Row) (rule : Rule) → slice_get g.rules k ≡ Some rule → KindTo kind k row
-      → (kind_of rule.pattern ≡ kind → Withstands (entry_at row rule.left) (offered rule nodes rows row i) rule (k + 1)) → KindTo kind (k + 1) row
+      → (rule_kind rule.pattern ≡ kind → Withstands (entry_at row rule.left) (offered rule nodes rows row i) rule (k + 1)) → KindTo kind (k + 1) row
   KindTo-more kind k row rule at below here j rule' lt at' q = go (split j k lt)
     where
       split : (j k : ℕ) → j < k + 1 → (j < k) ⊎ (j ≡ k)
@@ -59,7 +59,7 @@ module _ (g : Grammar) (nodes : List Node) (rows : List Row) (i : ℕ) where
       go (inr e) =
           let same : rule ≡ rule' = some_same (sym at ∙ ap (slice_get g.rules) (sym e) ∙ at') in
           subst (λ x. Withstands (entry_at row rule'.left) (offered rule' nodes rows row i) rule' (x + 1)) (sym e)
-          (subst (λ (x : Rule). Withstands (entry_at row x.left) (offered x nodes rows row i) x (k + 1)) same (here (ap (λ (x : Rule). kind_of x.pattern) same ∙ q)))
+          (subst (λ (x : Rule). Withstands (entry_at row x.left) (offered x nodes rows row i) x (k + 1)) same (here (ap (λ (x : Rule). rule_kind x.pattern) same ∙ q)))
 
   -- a better row withstands what rules with operators offer
   pub Operators-kept : (k : ℕ) (row new : Row) → Keeps row new → KindTo Operator k row → KindTo Operator k new
@@ -78,7 +78,7 @@ module _ (g : Grammar) (nodes : List Node) (rows : List Row) (i : ℕ) where
     pub Operators-bettered : KindTo Operator k row → KindTo Operator (k + 1) new
     Operators-bettered below = KindTo-more Operator k new rule at (Operators-kept k row new (Keeps-bettered rule (k + 1) _ row new inside b) below) own
       where
-        own : kind_of rule.pattern ≡ Operator → Withstands (entry_at new rule.left) (offered rule nodes rows new i) rule (k + 1)
+        own : rule_kind rule.pattern ≡ Operator → Withstands (entry_at new rule.left) (offered rule nodes rows new i) rule (k + 1)
         own q =
             let offer : offered rule nodes rows new i ≡ Some (b.kids) = offered_apart rule nodes rows new row i q ∙ b.offered in
             subst (λ x. Withstands (entry_at new rule.left) x rule (k + 1)) (sym offer)

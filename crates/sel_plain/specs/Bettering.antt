@@ -11,7 +11,7 @@ use Rattle.sel_plain.specs.declared.entry.Entry.{Entry}
 use Rattle.sel_plain.specs.CostBounds.{capped_sum, IsUpTo, IsNoDearer, is_dearer, cost_place, per_tree}
 use Rattle.sel_plain.specs.declared.kind.RuleKind.{RuleKind}
 use Rattle.sel_plain.specs.declared.kind.RuleKind.TheVariants.{Operator}
-use Rattle.sel_plain.specs.Kinds.{kind_of}
+use Rattle.sel_plain.specs.Kinds.{rule_kind}
 use Rattle.sel_plain.specs.Rows.{Row, entry_at}
 use Rattle.sel_plain.specs.Offers.{offered}
 
@@ -44,7 +44,7 @@ pub record IsBettered (rule : Rule) (r : ℕ) (offer : Option Cost) (old new : R
 -- the offers of all rules of a kind are withstood
 abbrev pub KindWithstood : RuleKind → Grammar → List Node → List Row → Row → ℕ → Type 0
 KindWithstood kind g nodes rows row i =
-    (k : ℕ) (rule : Rule) → slice_get g.rules k ≡ Some rule → kind_of rule.pattern ≡ kind → Withstands (entry_at row rule.left) (offered rule nodes rows row i) rule (k + 1)
+    (k : ℕ) (rule : Rule) → slice_get g.rules k ≡ Some rule → rule_kind rule.pattern ≡ kind → Withstands (entry_at row rule.left) (offered rule nodes rows row i) rule (k + 1)
 
 -- each entry is there still, or one that is no later
 abbrev pub Keeps : Row → Row → Type 0
@@ -82,7 +82,7 @@ AllBacked g nodes rows row i base = (n : ℕ) (e : Entry) → entry_at row n ≡
 
 -- what rules but chain rules offer is at most base
 abbrev pub OperatorOffers : Grammar → List Node → List Row → ℕ → ℕ → Type 0
-OperatorOffers g nodes rows i base = (rule : Rule) (row : Row) (c : Cost) → kind_of rule.pattern ≡ Operator → offered rule nodes rows row i ≡ Some c → IsUpTo base c
+OperatorOffers g nodes rows i base = (rule : Rule) (row : Row) (c : Cost) → rule_kind rule.pattern ≡ Operator → offered rule nodes rows row i ≡ Some c → IsUpTo base c
 
 -- where the old row's entries are backed, so are the new row's
 abbrev pub KeepsBacked : Grammar → List Node → List Row → ℕ → Row → Row → Type 0

@@ -4,6 +4,6 @@ use Rattle.sel_plain.specs.declared.kind.RuleKind.{RuleKind}
 use Rattle.sel_plain.specs.declared.kind.RuleKind.TheVariants.{Operator, Chain}
 
 -- of the rule with this pattern
-abbrev pub kind_of : Pattern → RuleKind
-kind_of (Leaf n) = Chain
-kind_of _ = Operator
+abbrev pub rule_kind : Pattern → RuleKind
+rule_kind (Leaf n) = Chain
+rule_kind _ = Operator

@@ -7,7 +7,7 @@ use Rattle.sel_grammar.specs.Fits.{in_range}
 use Rattle.sel_grammar.specs.Costs.{Cost, no_cost}
 use Rattle.sel_forest.specs.declared.forest.Node.{Node}
 use Rattle.sel_forest.specs.Places.{met}
-use Rattle.sel_plain.specs.Rows.{Row, entry_at, row_at, cost_of}
+use Rattle.sel_plain.specs.Rows.{Row, entry_at, row_at, entry_cost}
 use Rattle.sel_plain.specs.CostBounds.{capped_sum}
 
 -- the sum of both, where there are both
@@ -17,7 +17,7 @@ both_costs _ _ = None
 
 -- what the best derivations for a pattern's nonterminals cost, where it lies over the tree of the node at i
 abbrev pub kids_cost : Pattern → List Node → List Row → ℕ → Option Cost
-kids_cost (Leaf n) nodes rows i = cost_of (entry_at (row_at rows i) n)
+kids_cost (Leaf n) nodes rows i = entry_cost (entry_at (row_at rows i) n)
 kids_cost (Nullary op) nodes rows i = option_and_then (λ node. Some no_cost) (met (slice_get nodes i) op 0)
 kids_cost (Unary' op s (more_of-Pattern p end_of-Pattern)) nodes rows i = option_and_then (λ node. kids_cost p nodes rows node.left) (met (slice_get nodes i) op 1)
 kids_cost (Binary' op s (more_of-Pattern p end_of-Pattern) s' (more_of-Pattern q end_of-Pattern)) nodes rows i =
@@ -25,7 +25,7 @@ kids_cost (Binary' op s (more_of-Pattern p end_of-Pattern) s' (more_of-Pattern q
 
 -- the same, but that a pattern that is a nonterminal asks the node's own row
 abbrev pub offered_by : Pattern → List Node → List Row → Row → ℕ → Option Cost
-offered_by (Leaf n) nodes rows row i = cost_of (entry_at row n)
+offered_by (Leaf n) nodes rows row i = entry_cost (entry_at row n)
 offered_by p nodes rows row i = kids_cost p nodes rows i
 
 -- what a rule's kids cost at the node at i, where it fits

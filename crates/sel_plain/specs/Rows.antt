@@ -22,8 +22,8 @@ rows_of (suc count) width entries = take width entries ∷ rows_of count width (
 abbrev pub entry_at : Row → ℕ → Option Entry
 entry_at row n = option_flatten (slice_get row n)
 
-abbrev pub cost_of : Option Entry → Option Cost
-cost_of entry = option_map (λ e. e.cost) entry
+abbrev pub entry_cost : Option Entry → Option Cost
+entry_cost entry = option_map (λ e. e.cost) entry
 
 -- the row of a node
 abbrev pub row_at : List Row → ℕ → Row

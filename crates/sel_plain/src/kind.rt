@@ -1,5 +1,5 @@
 ghost use Rattle.std.specs.Prelude.{◌≡◌};
-ghost use Rattle.sel_plain.specs.Kinds.{kind_of};
+ghost use Rattle.sel_plain.specs.Kinds.{rule_kind};
 
 use sel_grammar::Pattern;
 
@@ -11,8 +11,8 @@ pub enum RuleKind {
 }
 
 #[tactic(auto, using(crate::proofs::Patterns::kind_cases))]
-pub fn kind_of(pattern: &Pattern) -> RuleKind
-    ensures { result ≡ kind_of pattern.now }
+pub fn rule_kind(pattern: &Pattern) -> RuleKind
+    ensures { result ≡ rule_kind pattern.now }
 {
     match pattern {
         Pattern::Leaf(_) => RuleKind::Chain,

@@ -1,5 +1,5 @@
 ghost use Rattle.std.specs.Prelude.{◌≡◌};
-ghost use Rattle.sel_plain.specs.Rows.{entry_at, row_at, cost_of};
+ghost use Rattle.sel_plain.specs.Rows.{entry_at, row_at, entry_cost};
 ghost use Rattle.sel_plain.specs.Offers.{kids_cost, both_costs, offered, offered_by};
 
 use crate::cost::{capped_sum, no_cost};
@@ -10,7 +10,7 @@ use sel_forest::{Node, in_range, met};
 use sel_grammar::{Pattern, Rule};
 
 fn cost_at(table: &Table, at: usize, nonterminal: usize) -> Option<Pair>
-    ensures { result ≡ cost_of (entry_at (row_at table.now.rows at) nonterminal) }
+    ensures { result ≡ entry_cost (entry_at (row_at table.now.rows at) nonterminal) }
 {
     match table.entry(at, nonterminal) {
         Some(entry) => Some(entry.cost),

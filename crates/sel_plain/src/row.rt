@@ -5,14 +5,14 @@ ghost use Rattle.sel_grammar.specs.Chains.{HasNoFreeCycle};
 ghost use Rattle.sel_grammar.specs.Limits.{IsWithinLimits};
 ghost use Rattle.sel_forest.specs.Places.{IsRootAt, SizesBelow};
 ghost use Rattle.sel_plain.specs.BestRows.{IsBestRow, AreBestRows};
-ghost use Rattle.sel_plain.specs.Kinds.{kind_of};
+ghost use Rattle.sel_plain.specs.Kinds.{rule_kind};
 ghost use Rattle.sel_plain.specs.Rows.{entry_at};
 ghost use Rattle.sel_plain.specs.Offers.{offered};
 ghost use Rattle.sel_plain.specs.Bettering.{Withstands, IsBettered, KindWithstood, Keeps, KeepsBacked, total_distance};
 
 use crate::cost::{capped_sum, paid};
 use crate::entry::{Entry, is_kept_out};
-use crate::kind::{RuleKind, kind_of};
+use crate::kind::{RuleKind, rule_kind};
 use crate::offer::offered;
 use crate::table::{Table, entry_of};
 use sel_forest::Node;
@@ -64,12 +64,12 @@ fn offer_if(
 ) -> bool
     requires { rule.now.left < length row.old }
     ensures stays { result ≡ false → row.new ≡ row.old }
-    ensures withstands { result ≡ false → kind_of rule.now.pattern ≡ kind
+    ensures withstands { result ≡ false → rule_kind rule.now.pattern ≡ kind
         → Withstands (entry_at row.old rule.now.left) (offered rule.now nodes.now table.now.rows row.old at) rule.now number }
     ensures bettered { result ≡ true
         → IsBettered rule.now number (offered rule.now nodes.now table.now.rows row.old at) row.old row.new }
 {
-    if kind_of(&rule.pattern) == kind {
+    if rule_kind(&rule.pattern) == kind {
         offer(rule, number, nodes, table, row, at)
     } else {
         false
