@@ -167,7 +167,7 @@ fn forests_with_attributes_and_their_faults(rt: HostRuntime) -> Result<(), Fail>
     let alloc = rt.alloc();
     let good = Case {
         grammar: ATTRIBUTES,
-        forest: " ASGN ( ADDR:x , ADD(INDIR(ADDR:y),CNST:-0) )\t\r\nASGN(CNST:-9223372036854775808,CNST:.L1)\nCNST:7",
+        forest: " ASGN ( ADDR:x , ADD(INDIR(ADDR:y),CNST:-0) )\t\r\nASGN(CNST:-9223372036854775808,CNST:.loop)\nCNST:7",
         out: "; tree 1 cost 3\n1 4 2 5 4 3\n; tree 2 cost 1\n1 3 3\n; tree 3 no cover\n",
         status: Status::Uncovered,
         ..PLAIN
@@ -360,6 +360,28 @@ fn a_put_that_fails_leaves_the_bytes_before_it(rt: HostRuntime) -> Result<(), Fa
         ..PLAIN
     };
     ends(&rt, alloc, &case)
+}
+
+// With ample memory this is the whole output. It is also run with each allocation failing in turn.
+#[test]
+fn where_memory_is_refused_a_front_of_the_output_is_left(rt: HostRuntime) -> Result<(), Fail> {
+    let alloc = rt.alloc();
+    let case = Case {
+        forest: THREE_TREES,
+        piece: 8,
+        ..PLAIN
+    };
+    let end = end_of(&rt, alloc, &case)?;
+    let taken = end.out.bytes().len();
+    assert_eq!(rt;
+        Some(end.out.bytes()),
+        THREE_ANSWERS.as_bytes().get(..taken)
+    );
+    if end.status != Status::NoMemory {
+        assert_eq!(rt; end.status, Status::Uncovered);
+        assert_eq!(rt; taken, THREE_ANSWERS.len());
+    }
+    Ok(())
 }
 
 #[test]
