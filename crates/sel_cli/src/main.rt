@@ -2,9 +2,11 @@
 #![tactic(auto)]
 
 mod answers;
+mod command_line;
 mod lines;
 mod report;
 mod run;
+mod settings;
 mod status;
 mod text;
 mod texts;
