@@ -19,15 +19,15 @@ use Rattle.sel_cli.specs.CommandLine.{option_rule, plain_rule}
 use Rattle.sel_cli.specs.Split.{is_name}
 use Rattle.sel_cli.proofs.ClapReading.{Text, dashes, at_long, reads}
 
-abbrev pub O : Text → Rule
-O name = with_index 1 (filled (option_rule name))
+abbrev pub option_argument : Text → Rule
+option_argument name = with_index 1 (filled (option_rule name))
 
-abbrev pub P : Rule
-P = with_index 1 (filled plain_rule)
+abbrev pub plain_argument : Rule
+plain_argument = with_index 1 (filled plain_rule)
 
 -- the walk between two words, before a subcommand, with no bundle begun
-abbrev pub mk : List Row → Option (Text × List Text) → Waiting → Bool → Walk
-mk rows p waiting trailing = record {
+abbrev pub between : List Row → Option (Text × List Text) → Waiting → Bool → Walk
+between rows p waiting trailing = record {
   held = record { rows = rows; pending = p; skip = 0 };
   waiting = waiting;
   position = 1;
@@ -37,47 +37,47 @@ mk rows p waiting trailing = record {
 
 -- what the command's arguments are
 pub record IsSel (s : Shape) : Type 0 where
-  pub by_index : arg_by_index s.rules 1 ≡ Some P
-  pub by_long : (name : Text) → is_name name ≡ true → arg_by_long s.rules name ≡ Some (O name)
+  pub by_index : arg_by_index s.rules 1 ≡ Some plain_argument
+  pub by_long : (name : Text) → is_name name ≡ true → arg_by_long s.rules name ≡ Some (option_argument name)
   pub by_no_long : (name : Text) → is_name name ≡ false → arg_by_long s.rules name ≡ None
   pub by_short : (c : ℕ) → arg_by_short s.rules c ≡ None
-  pub plain_id : arg_by_id s.rules (codes "plain") ≡ Some P
-  pub option_id : (name : Text) → is_name name ≡ true → arg_by_id s.rules name ≡ Some (O name)
+  pub plain_id : arg_by_id s.rules (codes "plain") ≡ Some plain_argument
+  pub option_id : (name : Text) → is_name name ≡ true → arg_by_id s.rules name ≡ Some (option_argument name)
   pub help : s.disable_help_subcommand ≡ true
 
 -- the walk passes over these words, and what is pending at its end passes
-abbrev pub C : Shape → Walk → List Text → Bool
-C s w [] = settle_passes s.rules s.args_override_self w.held
-C s w (word ∷ rest) = turn_passes s [] w word && C s (walked s.rules [] w word) rest
+abbrev pub passes_all : Shape → Walk → List Text → Bool
+passes_all s w [] = settle_passes s.rules s.args_override_self w.held
+passes_all s w (word ∷ rest) = turn_passes s [] w word && passes_all s (walked s.rules [] w word) rest
 
 and_assoc : (a b c : Bool) → ((a && b) && c) ≡ (a && (b && c))
 and_assoc true b c = refl
 and_assoc false b c = refl
 
-C-is : (s : Shape) (w : Walk) (words : List Text)
-    → (walk_passes s [] w words && settle_passes s.rules s.args_override_self (fold (walked s.rules []) w words).held) ≡ C s w words
+passes_all-is : (s : Shape) (w : Walk) (words : List Text)
+    → (walk_passes s [] w words && settle_passes s.rules s.args_override_self (fold (walked s.rules []) w words).held) ≡ passes_all s w words
 unfolding walk_passes
-C-is s w [] = refl
-C-is s w (word ∷ rest) = and_assoc (turn_passes s [] w word) _ _ ∙ ap (λ b. turn_passes s [] w word && b) (C-is s (walked s.rules [] w word) rest)
+passes_all-is s w [] = refl
+passes_all-is s w (word ∷ rest) = and_assoc (turn_passes s [] w word) _ _ ∙ ap (λ b. turn_passes s [] w word && b) (passes_all-is s (walked s.rules [] w word) rest)
 
 step_true : (s : Shape) (w next : Walk) (word : Text) (rest : List Text) (v : Bool)
-    → turn_passes s [] w word ≡ true → walked s.rules [] w word ≡ next → C s next rest ≡ v → C s w (word ∷ rest) ≡ v
-step_true s w next word rest v t e h = ap (λ b. b && C s (walked s.rules [] w word) rest) t ∙ ap (λ x. C s x rest) e ∙ h
+    → turn_passes s [] w word ≡ true → walked s.rules [] w word ≡ next → passes_all s next rest ≡ v → passes_all s w (word ∷ rest) ≡ v
+step_true s w next word rest v t e h = ap (λ b. b && passes_all s (walked s.rules [] w word) rest) t ∙ ap (λ x. passes_all s x rest) e ∙ h
 
-step_false : (s : Shape) (w : Walk) (word : Text) (rest : List Text) → turn_passes s [] w word ≡ false → C s w (word ∷ rest) ≡ false
-step_false s w word rest t = ap (λ b. b && C s (walked s.rules [] w word) rest) t
+step_false : (s : Shape) (w : Walk) (word : Text) (rest : List Text) → turn_passes s [] w word ≡ false → passes_all s w (word ∷ rest) ≡ false
+step_false s w word rest t = ap (λ b. b && passes_all s (walked s.rules [] w word) rest) t
 
 -- what is pending passes
-abbrev pub Ok : Shape → Option (Text × List Text) → Type 0
-Ok s p = (rows : List Row) → settle_passes s.rules s.args_override_self (record { rows = rows; pending = p; skip = 0 }) ≡ true
+abbrev pub Settles : Shape → Option (Text × List Text) → Type 0
+Settles s p = (rows : List Row) → settle_passes s.rules s.args_override_self (record { rows = rows; pending = p; skip = 0 }) ≡ true
 
-pub ok_none : (s : Shape) → Ok s None
+pub ok_none : (s : Shape) → Settles s None
 ok_none s rows = refl
 
-pub ok_plain : (s : Shape) → IsSel s → (word : Text) → Ok s (Some (codes "plain", word ∷ []))
+pub ok_plain : (s : Shape) → IsSel s → (word : Text) → Settles s (Some (codes "plain", word ∷ []))
 ok_plain s h word rows = rw h.plain_id refl
 
-pub ok_option : (s : Shape) → IsSel s → (name word : Text) → is_name name ≡ true → Ok s (Some (name, word ∷ []))
+pub ok_option : (s : Shape) → IsSel s → (name word : Text) → is_name name ≡ true → Settles s (Some (name, word ∷ []))
 ok_option s h name word n rows = rw (h.option_id name n) refl
 
 and_false : (a : Bool) → (a && false) ≡ false
@@ -89,30 +89,30 @@ or_right true b e = refl
 or_right false b e = e
 
 -- a word goes to the positional
-plain_passes : (s : Shape) (rows : List Row) (p : Option (Text × List Text)) → Ok s p
-    → positional_passes s.rules s.args_override_self P (record { rows = rows; pending = p; skip = 0 }) ≡ true
+plain_passes : (s : Shape) (rows : List Row) (p : Option (Text × List Text)) → Settles s p
+    → positional_passes s.rules s.args_override_self plain_argument (record { rows = rows; pending = p; skip = 0 }) ≡ true
 plain_passes s rows p ok = or_right _ _ (ok rows)
 
 next_plain : (s : Shape) (rows : List Row) (p : Option (Text × List Text)) (waiting : Waiting) (trailing : Bool) (word : Text)
-    → to_positional s.rules (Some P) word (mk rows p waiting trailing) (record { rows = rows; pending = p; skip = 0 })
-    ≡ mk (settled_rows s.rules p rows) (Some (codes "plain", word ∷ [])) positional (trailing || false)
-next_plain s rows p waiting trailing word = rw (and_false (is_pending P p)) refl
+    → to_positional s.rules (Some plain_argument) word (between rows p waiting trailing) (record { rows = rows; pending = p; skip = 0 })
+    ≡ between (settled_rows s.rules p rows) (Some (codes "plain", word ∷ [])) positional (trailing || false)
+next_plain s rows p waiting trailing word = rw (and_false (is_pending plain_argument p)) refl
 
 -- a plain word passes, and goes to the positional
-turn_behind : (s : Shape) → IsSel s → (rows : List Row) (p : Option (Text × List Text)) (waiting : Waiting) (word : Text) → Ok s p
-    → turn_passes s [] (mk rows p waiting true) word ≡ true
+turn_behind : (s : Shape) → IsSel s → (rows : List Row) (p : Option (Text × List Text)) (waiting : Waiting) (word : Text) → Settles s p
+    → turn_passes s [] (between rows p waiting true) word ≡ true
 turn_behind s h rows p waiting word ok = rw h.by_index (plain_passes s rows p ok)
 
 pub walked_behind : (s : Shape) → IsSel s → (rows : List Row) (p : Option (Text × List Text)) (waiting : Waiting) (word : Text)
-    → walked s.rules [] (mk rows p waiting true) word ≡ mk (settled_rows s.rules p rows) (Some (codes "plain", word ∷ [])) positional true
+    → walked s.rules [] (between rows p waiting true) word ≡ between (settled_rows s.rules p rows) (Some (codes "plain", word ∷ [])) positional true
 unfolding walked
 walked_behind s h rows p waiting word = rw h.by_index (next_plain s rows p waiting true word)
 
 -- behind `--` each word is plain
-behind : (s : Shape) → IsSel s → (words : List Text) (rows : List Row) (p : Option (Text × List Text)) (waiting : Waiting) → Ok s p → C s (mk rows p waiting true) words ≡ true
+behind : (s : Shape) → IsSel s → (words : List Text) (rows : List Row) (p : Option (Text × List Text)) (waiting : Waiting) → Settles s p → passes_all s (between rows p waiting true) words ≡ true
 behind s h [] rows p waiting ok = ok rows
 behind s h (word ∷ rest) rows p waiting ok =
-    step_true s (mk rows p waiting true) _ word rest true (turn_behind s h rows p waiting word ok) (walked_behind s h rows p waiting word)
+    step_true s (between rows p waiting true) _ word rest true (turn_behind s h rows p waiting word ok) (walked_behind s h rows p waiting word)
     (behind s h rest (settled_rows s.rules p rows) (Some (codes "plain", word ∷ [])) positional (ok_plain s h word))
 
 -- ---- before `--`
@@ -122,61 +122,61 @@ NotOption idle = Unit {0}
 NotOption positional = Unit {0}
 NotOption (option name) = ⊥
 
-turn_plain : (s : Shape) → IsSel s → (rows : List Row) (p : Option (Text × List Text)) (waiting : Waiting) (word : Text) → NotOption waiting → Ok s p
+turn_plain : (s : Shape) → IsSel s → (rows : List Row) (p : Option (Text × List Text)) (waiting : Waiting) (word : Text) → NotOption waiting → Settles s p
     → bytes_eq word dashes ≡ false → long_of word ≡ None → short_of word ≡ None
-    → turn_passes s [] (mk rows p waiting false) word ≡ true
+    → turn_passes s [] (between rows p waiting false) word ≡ true
 turn_plain s h rows p idle word n ok d l c = rw (d, l, c, h.by_index) (plain_passes s rows p ok)
 turn_plain s h rows p positional word n ok d l c = rw (d, l, c, h.by_index) (plain_passes s rows p ok)
 turn_plain s h rows p (option name) word n ok d l c = absurd n
 
 pub walked_plain : (s : Shape) → IsSel s → (rows : List Row) (p : Option (Text × List Text)) (waiting : Waiting) (word : Text) → NotOption waiting
     → bytes_eq word dashes ≡ false → long_of word ≡ None → short_of word ≡ None
-    → walked s.rules [] (mk rows p waiting false) word ≡ mk (settled_rows s.rules p rows) (Some (codes "plain", word ∷ [])) positional false
+    → walked s.rules [] (between rows p waiting false) word ≡ between (settled_rows s.rules p rows) (Some (codes "plain", word ∷ [])) positional false
 unfolding walked
 walked_plain s h rows p idle word n d l c = rw (d, l, c, h.by_index) (next_plain s rows p idle false word)
 walked_plain s h rows p positional word n d l c = rw (d, l, c, h.by_index) (next_plain s rows p positional false word)
 walked_plain s h rows p (option name) word n d l c = absurd n
 
 turn_dashes : (s : Shape) (rows : List Row) (p : Option (Text × List Text)) (waiting : Waiting) (word : Text)
-    → bytes_eq word dashes ≡ true → turn_passes s [] (mk rows p waiting false) word ≡ true
+    → bytes_eq word dashes ≡ true → turn_passes s [] (between rows p waiting false) word ≡ true
 turn_dashes s rows p idle word d = rw d refl
 turn_dashes s rows p positional word d = rw d refl
 turn_dashes s rows p (option name) word d = rw d refl
 
 pub walked_dashes : (s : Shape) (rows : List Row) (p : Option (Text × List Text)) (waiting : Waiting) (word : Text)
-    → bytes_eq word dashes ≡ true → walked s.rules [] (mk rows p waiting false) word ≡ mk rows p waiting true
+    → bytes_eq word dashes ≡ true → walked s.rules [] (between rows p waiting false) word ≡ between rows p waiting true
 unfolding walked
 walked_dashes s rows p idle word d = rw d refl
 walked_dashes s rows p positional word d = rw d refl
 walked_dashes s rows p (option name) word d = rw d refl
 
 -- `--name=value`
-turn_assigned : (s : Shape) → IsSel s → (rows : List Row) (p : Option (Text × List Text)) (waiting : Waiting) (word name v : Text) → NotOption waiting → Ok s p
+turn_assigned : (s : Shape) → IsSel s → (rows : List Row) (p : Option (Text × List Text)) (waiting : Waiting) (word name v : Text) → NotOption waiting → Settles s p
     → bytes_eq word dashes ≡ false → long_of word ≡ Some (name, Some v) → is_name name ≡ true
-    → turn_passes s [] (mk rows p waiting false) word ≡ true
+    → turn_passes s [] (between rows p waiting false) word ≡ true
 turn_assigned s h rows p idle word name v n ok d l m = rw (d, l, h.by_long name m, ok rows) refl
 turn_assigned s h rows p positional word name v n ok d l m = rw (d, l, h.by_long name m, ok rows) refl
 turn_assigned s h rows p (option other) word name v n ok d l m = absurd n
 
 pub walked_assigned : (s : Shape) → IsSel s → (rows : List Row) (p : Option (Text × List Text)) (waiting : Waiting) (word name v : Text) → NotOption waiting
     → bytes_eq word dashes ≡ false → long_of word ≡ Some (name, Some v) → is_name name ≡ true
-    → walked s.rules [] (mk rows p waiting false) word ≡ mk (used (O name) (v ∷ []) (settled_rows s.rules p rows)) None idle false
+    → walked s.rules [] (between rows p waiting false) word ≡ between (used (option_argument name) (v ∷ []) (settled_rows s.rules p rows)) None idle false
 unfolding walked
 walked_assigned s h rows p idle word name v n d l m = rw (d, l, h.by_long name m) refl
 walked_assigned s h rows p positional word name v n d l m = rw (d, l, h.by_long name m) refl
 walked_assigned s h rows p (option other) word name v n d l m = absurd n
 
 -- `--name`
-turn_named : (s : Shape) → IsSel s → (rows : List Row) (p : Option (Text × List Text)) (waiting : Waiting) (word name : Text) → NotOption waiting → Ok s p
+turn_named : (s : Shape) → IsSel s → (rows : List Row) (p : Option (Text × List Text)) (waiting : Waiting) (word name : Text) → NotOption waiting → Settles s p
     → bytes_eq word dashes ≡ false → long_of word ≡ Some (name, None) → is_name name ≡ true
-    → turn_passes s [] (mk rows p waiting false) word ≡ true
+    → turn_passes s [] (between rows p waiting false) word ≡ true
 turn_named s h rows p idle word name n ok d l m = rw (d, l, h.by_long name m, ok rows) refl
 turn_named s h rows p positional word name n ok d l m = rw (d, l, h.by_long name m, ok rows) refl
 turn_named s h rows p (option other) word name n ok d l m = absurd n
 
 pub walked_named : (s : Shape) → IsSel s → (rows : List Row) (p : Option (Text × List Text)) (waiting : Waiting) (word name : Text) → NotOption waiting
     → bytes_eq word dashes ≡ false → long_of word ≡ Some (name, None) → is_name name ≡ true
-    → walked s.rules [] (mk rows p waiting false) word ≡ mk (settled_rows s.rules p rows) (Some (name, [])) (option name) false
+    → walked s.rules [] (between rows p waiting false) word ≡ between (settled_rows s.rules p rows) (Some (name, [])) (option name) false
 unfolding walked
 walked_named s h rows p idle word name n d l m = rw (d, l, h.by_long name m) refl
 walked_named s h rows p positional word name n d l m = rw (d, l, h.by_long name m) refl
@@ -185,7 +185,7 @@ walked_named s h rows p (option other) word name n d l m = absurd n
 -- an unknown name, in any state
 turn_unknown : (s : Shape) → IsSel s → (rows : List Row) (p : Option (Text × List Text)) (waiting : Waiting) (word name : Text) (v : Option Text)
     → bytes_eq word dashes ≡ false → long_of word ≡ Some (name, v) → is_name name ≡ false
-    → turn_passes s [] (mk rows p waiting false) word ≡ false
+    → turn_passes s [] (between rows p waiting false) word ≡ false
 turn_unknown s h rows p idle word name v d l m = rw (d, l, h.by_no_long name m) refl
 turn_unknown s h rows p positional word name v d l m = rw (d, l, h.by_no_long name m) refl
 turn_unknown s h rows p (option other) word name v d l m = rw (d, l, h.by_no_long name m) refl
@@ -199,7 +199,7 @@ pub record HasFirst (flags : Text) : Type 0 where
 
 turn_bundle : (s : Shape) → IsSel s → (rows : List Row) (p : Option (Text × List Text)) (waiting : Waiting) (word flags : Text) → HasFirst flags
     → bytes_eq word dashes ≡ false → long_of word ≡ None → short_of word ≡ Some flags
-    → turn_passes s [] (mk rows p waiting false) word ≡ false
+    → turn_passes s [] (between rows p waiting false) word ≡ false
 unfolding flags_pass
 turn_bundle s h rows p idle word flags f d l c = rw (d, l, c, f.is_count, f.is_first, h.by_short f.first) refl
 turn_bundle s h rows p positional word flags f d l c = rw (d, l, c, f.is_count, f.is_first, h.by_short f.first) refl
@@ -216,26 +216,26 @@ or_false : (a b : Bool) → a ≡ false → b ≡ false → (a || b) ≡ false
 or_false true b p q = p
 or_false false b p q = q
 
-lost : (s : Shape) → IsSel s → (words : List Text) (rows : List Row) (name : Text) (waiting : Waiting) → is_name name ≡ true → C s (mk rows (Some (name, [])) waiting true) words ≡ false
+lost : (s : Shape) → IsSel s → (words : List Text) (rows : List Row) (name : Text) (waiting : Waiting) → is_name name ≡ true → passes_all s (between rows (Some (name, [])) waiting true) words ≡ false
 lost s h [] rows name waiting m = unsettled s h name m rows
 lost s h (word ∷ rest) rows name waiting m =
-    step_false s (mk rows (Some (name, [])) waiting true) word rest
-    (rw h.by_index (or_false (is_pending P (Some (name, [])) && false) _ (and_false (is_pending P (Some (name, [])))) (unsettled s h name m rows)))
+    step_false s (between rows (Some (name, [])) waiting true) word rest
+    (rw h.by_index (or_false (is_pending plain_argument (Some (name, [])) && false) _ (and_false (is_pending plain_argument (Some (name, [])))) (unsettled s h name m rows)))
 
 turn_value : (s : Shape) → IsSel s → (rows : List Row) (name word : Text) → is_name name ≡ true
     → bytes_eq word dashes ≡ false → long_of word ≡ None → short_of word ≡ None
-    → turn_passes s [] (mk rows (Some (name, [])) (option name) false) word ≡ true
+    → turn_passes s [] (between rows (Some (name, [])) (option name) false) word ≡ true
 turn_value s h rows name word m d l c = rw (d, l, c) refl
 
 pub walked_value : (s : Shape) → IsSel s → (rows : List Row) (name word : Text) → is_name name ≡ true → bytes_eq name name ≡ true
     → bytes_eq word dashes ≡ false → long_of word ≡ None → short_of word ≡ None
-    → walked s.rules [] (mk rows (Some (name, [])) (option name) false) word ≡ mk rows (Some (name, word ∷ [])) idle false
+    → walked s.rules [] (between rows (Some (name, [])) (option name) false) word ≡ between rows (Some (name, word ∷ [])) idle false
 unfolding walked
 walked_value s h rows name word m self d l c = rw (d, l, c, h.option_id name m, self) refl
 
 turn_again : (s : Shape) → IsSel s → (rows : List Row) (name word other : Text) (v : Option Text) → is_name name ≡ true
     → bytes_eq word dashes ≡ false → long_of word ≡ Some (other, v) → is_name other ≡ true
-    → turn_passes s [] (mk rows (Some (name, [])) (option name) false) word ≡ false
+    → turn_passes s [] (between rows (Some (name, [])) (option name) false) word ≡ false
 turn_again s h rows name word other (Some v) m d l k = rw (d, l, h.by_long other k, unsettled s h name m rows) refl
 turn_again s h rows name word other None m d l k = rw (d, l, h.by_long other k, unsettled s h name m rows) refl
 
@@ -253,55 +253,55 @@ AllReadable [] = Unit {0}
 AllReadable (word ∷ rest) = IsReadable word × AllReadable rest
 
 abbrev pub Idle : Shape → List Text → Bool → Type 0
-Idle s rest next = (rows : List Row) (p : Option (Text × List Text)) (waiting : Waiting) → NotOption waiting → Ok s p → C s (mk rows p waiting false) rest ≡ next
+Idle s rest next = (rows : List Row) (p : Option (Text × List Text)) (waiting : Waiting) → NotOption waiting → Settles s p → passes_all s (between rows p waiting false) rest ≡ next
 
 abbrev pub Wait : Shape → List Text → (Text → Bool) → Type 0
-Wait s rest wait = (rows : List Row) (name : Text) → is_name name ≡ true → C s (mk rows (Some (name, [])) (option name) false) rest ≡ wait name
+Wait s rest wait = (rows : List Row) (name : Text) → is_name name ≡ true → passes_all s (between rows (Some (name, [])) (option name) false) rest ≡ wait name
 
 module _ (s : Shape) (h : IsSel s) (word : Text) (rest : List Text) (ready : IsReadable word) (next : Bool) (wait : Text → Bool)
     (idle_next : Idle s rest next) (wait_next : Wait s rest wait) where
-  at_name : (rows : List Row) (p : Option (Text × List Text)) (waiting : Waiting) → NotOption waiting → Ok s p → bytes_eq word dashes ≡ false
+  at_name : (rows : List Row) (p : Option (Text × List Text)) (waiting : Waiting) → NotOption waiting → Settles s p → bytes_eq word dashes ≡ false
       → (name : Text) (v : Option Text) → long_of word ≡ Some (name, v) → (m : Bool) → is_name name ≡ m
-      → C s (mk rows p waiting false) (word ∷ rest) ≡ (m && (if is_some v then next else wait name))
-  at_name rows p waiting n ok d name v l false m = step_false s (mk rows p waiting false) word rest (turn_unknown s h rows p waiting word name v d l m)
+      → passes_all s (between rows p waiting false) (word ∷ rest) ≡ (m && (if is_some v then next else wait name))
+  at_name rows p waiting n ok d name v l false m = step_false s (between rows p waiting false) word rest (turn_unknown s h rows p waiting word name v d l m)
   at_name rows p waiting n ok d name (Some v) l true m =
-      step_true s (mk rows p waiting false) _ word rest next (turn_assigned s h rows p waiting word name v n ok d l m) (walked_assigned s h rows p waiting word name v n d l m)
-      (idle_next (used (O name) (v ∷ []) (settled_rows s.rules p rows)) None idle tt (ok_none s))
+      step_true s (between rows p waiting false) _ word rest next (turn_assigned s h rows p waiting word name v n ok d l m) (walked_assigned s h rows p waiting word name v n d l m)
+      (idle_next (used (option_argument name) (v ∷ []) (settled_rows s.rules p rows)) None idle tt (ok_none s))
   at_name rows p waiting n ok d name None l true m =
-      step_true s (mk rows p waiting false) _ word rest (wait name) (turn_named s h rows p waiting word name n ok d l m) (walked_named s h rows p waiting word name n d l m)
+      step_true s (between rows p waiting false) _ word rest (wait name) (turn_named s h rows p waiting word name n ok d l m) (walked_named s h rows p waiting word name n d l m)
       (wait_next (settled_rows s.rules p rows) name m)
 
   -- any word, where no option waits
-  idle_word : (rows : List Row) (p : Option (Text × List Text)) (waiting : Waiting) → NotOption waiting → Ok s p
+  idle_word : (rows : List Row) (p : Option (Text × List Text)) (waiting : Waiting) → NotOption waiting → Settles s p
       → (d : Bool) (l : Option (Text × Option Text)) (c : Option Text) → bytes_eq word dashes ≡ d → long_of word ≡ l → short_of word ≡ c
-      → C s (mk rows p waiting false) (word ∷ rest) ≡ (if d then true else at_long l c next wait)
+      → passes_all s (between rows p waiting false) (word ∷ rest) ≡ (if d then true else at_long l c next wait)
   idle_word rows p waiting n ok true l c ed el ec =
-      step_true s (mk rows p waiting false) _ word rest true (turn_dashes s rows p waiting word ed) (walked_dashes s rows p waiting word ed) (behind s h rest rows p waiting ok)
+      step_true s (between rows p waiting false) _ word rest true (turn_dashes s rows p waiting word ed) (walked_dashes s rows p waiting word ed) (behind s h rest rows p waiting ok)
   idle_word rows p waiting n ok false (Some q) c ed el ec = at_name rows p waiting n ok ed q.0 q.1 el (is_name q.0) refl
   idle_word rows p waiting n ok false None (Some flags) ed el ec =
-      step_false s (mk rows p waiting false) word rest (turn_bundle s h rows p waiting word flags (ready flags ec) ed el ec)
+      step_false s (between rows p waiting false) word rest (turn_bundle s h rows p waiting word flags (ready flags ec) ed el ec)
   idle_word rows p waiting n ok false None None ed el ec =
-      step_true s (mk rows p waiting false) _ word rest next (turn_plain s h rows p waiting word n ok ed el ec) (walked_plain s h rows p waiting word n ed el ec)
+      step_true s (between rows p waiting false) _ word rest next (turn_plain s h rows p waiting word n ok ed el ec) (walked_plain s h rows p waiting word n ed el ec)
       (idle_next (settled_rows s.rules p rows) (Some (codes "plain", word ∷ [])) positional tt (ok_plain s h word))
 
   -- any word, where an option waits for it
   again : (rows : List Row) (name : Text) → is_name name ≡ true → bytes_eq word dashes ≡ false
       → (other : Text) (v : Option Text) → long_of word ≡ Some (other, v) → (m : Bool) → is_name other ≡ m
-      → C s (mk rows (Some (name, [])) (option name) false) (word ∷ rest) ≡ false
-  again rows name k d other v l true m = step_false s (mk rows (Some (name, [])) (option name) false) word rest (turn_again s h rows name word other v k d l m)
-  again rows name k d other v l false m = step_false s (mk rows (Some (name, [])) (option name) false) word rest (turn_unknown s h rows (Some (name, [])) (option name) word other v d l m)
+      → passes_all s (between rows (Some (name, [])) (option name) false) (word ∷ rest) ≡ false
+  again rows name k d other v l true m = step_false s (between rows (Some (name, [])) (option name) false) word rest (turn_again s h rows name word other v k d l m)
+  again rows name k d other v l false m = step_false s (between rows (Some (name, [])) (option name) false) word rest (turn_unknown s h rows (Some (name, [])) (option name) word other v d l m)
 
   wait_word : (rows : List Row) (name : Text) → is_name name ≡ true
       → (d : Bool) (l : Option (Text × Option Text)) (c : Option Text) → bytes_eq word dashes ≡ d → long_of word ≡ l → short_of word ≡ c
-      → C s (mk rows (Some (name, [])) (option name) false) (word ∷ rest) ≡ ((not d && (not (is_some l) && not (is_some c))) && next)
+      → passes_all s (between rows (Some (name, [])) (option name) false) (word ∷ rest) ≡ ((not d && (not (is_some l) && not (is_some c))) && next)
   wait_word rows name k true l c ed el ec =
-      step_true s (mk rows (Some (name, [])) (option name) false) _ word rest false (turn_dashes s rows (Some (name, [])) (option name) word ed)
+      step_true s (between rows (Some (name, [])) (option name) false) _ word rest false (turn_dashes s rows (Some (name, [])) (option name) word ed)
       (walked_dashes s rows (Some (name, [])) (option name) word ed) (lost s h rest rows name (option name) k)
   wait_word rows name k false (Some q) c ed el ec = again rows name k ed q.0 q.1 el (is_name q.0) refl
   wait_word rows name k false None (Some flags) ed el ec =
-      step_false s (mk rows (Some (name, [])) (option name) false) word rest (turn_bundle s h rows (Some (name, [])) (option name) word flags (ready flags ec) ed el ec)
+      step_false s (between rows (Some (name, [])) (option name) false) word rest (turn_bundle s h rows (Some (name, [])) (option name) word flags (ready flags ec) ed el ec)
   wait_word rows name k false None None ed el ec =
-      step_true s (mk rows (Some (name, [])) (option name) false) _ word rest next (turn_value s h rows name word k ed el ec)
+      step_true s (between rows (Some (name, [])) (option name) false) _ word rest next (turn_value s h rows name word k ed el ec)
       (walked_value s h rows name word k (same_bytes name) ed el ec)
       (idle_next rows (Some (name, word ∷ [])) idle tt (ok_option s h name word k))
 
@@ -363,11 +363,11 @@ no_name name m =
 pub sel_is : IsSel (built sel_app).top
 sel_is = record {
   by_index = refl;
-  by_long = names_case (λ name. arg_by_long (built sel_app).top.rules name ≡ Some (O name)) refl refl refl refl refl refl;
+  by_long = names_case (λ name. arg_by_long (built sel_app).top.rules name ≡ Some (option_argument name)) refl refl refl refl refl refl;
   by_no_long = no_name;
   by_short = λ c. refl;
   plain_id = refl;
-  option_id = names_case (λ name. arg_by_id (built sel_app).top.rules name ≡ Some (O name)) refl refl refl refl refl refl;
+  option_id = names_case (λ name. arg_by_id (built sel_app).top.rules name ≡ Some (option_argument name)) refl refl refl refl refl refl;
   help = refl;
 }
 
@@ -388,5 +388,5 @@ takes-is words ready =
     let w = walk_from nothing_held in
     no_stop ((walk s.rules [] nothing_held words).stopped) words
     ∙ ap (λ b. walk_passes s [] w words && b) (and_true (settle_passes s.rules s.args_override_self (walk s.rules [] nothing_held words).held))
-    ∙ C-is s w words
+    ∙ passes_all-is s w words
     ∙ (agrees s sel_is words ready).0 [] None idle tt (ok_none s)

@@ -11,7 +11,7 @@ use Rattle.clap.specs.declared.builder.value_parser.Reading.{Reading}
 use Rattle.sel_cli.specs.CommandLine.{sel_app}
 use Rattle.sel_cli.specs.Split.{is_name}
 use Rattle.sel_cli.proofs.ClapReading.{Text, dashes, at_long, reads, plain_name, value_at, values, values_at_long}
-use Rattle.sel_cli.proofs.ClapTakes.{O, mk, IsSel, NotOption, walked_behind, walked_plain, walked_dashes, walked_assigned, walked_named, walked_value, same_bytes, sel_is}
+use Rattle.sel_cli.proofs.ClapTakes.{option_argument, between, IsSel, NotOption, walked_behind, walked_plain, walked_dashes, walked_assigned, walked_named, walked_value, same_bytes, sel_is}
 
 -- ---- rows
 
@@ -63,11 +63,11 @@ vals-more id name v how s rows next = more_case (bytes_eq name id) refl
 -- ---- the words, one by one
 
 -- the values of a name at the end of a walk
-abbrev Z : Text → Shape → Walk → List Text → List Text
-Z id s w words = let h = (fold (walked s.rules []) w words).held in vals id (settled_rows s.rules h.pending h.rows)
+abbrev values_at_end : Text → Shape → Walk → List Text → List Text
+values_at_end id s w words = let h = (fold (walked s.rules []) w words).held in vals id (settled_rows s.rules h.pending h.rows)
 
-Z-next : (id : Text) (s : Shape) (w next : Walk) (word : Text) (rest : List Text) (v : List Text) → walked s.rules [] w word ≡ next → Z id s next rest ≡ v → Z id s w (word ∷ rest) ≡ v
-Z-next id s w next word rest v e h = ap (λ x. Z id s x rest) e ∙ h
+values_at_end-next : (id : Text) (s : Shape) (w next : Walk) (word : Text) (rest : List Text) (v : List Text) → walked s.rules [] w word ≡ next → values_at_end id s next rest ≡ v → values_at_end id s w (word ∷ rest) ≡ v
+values_at_end-next id s w next word rest v e h = ap (λ x. values_at_end id s x rest) e ∙ h
 
 -- what is pending at a plain word, and at an option's value, is used
 used_plain : (id : Text) (s : Shape) → IsSel s → (word : Text) (rows : List Row) (next : List Text)
@@ -88,57 +88,57 @@ nothing_more id true e = rw e refl
 nothing_more id false e = rw e refl
 
 behind-values : (id : Text) (s : Shape) → IsSel s → (words : List Text) (rows : List Row) (p : Option (Text × List Text)) (waiting : Waiting)
-    → Z id s (mk rows p waiting true) words ≡ vals id (settled_rows s.rules p rows) ++ (if bytes_eq plain_name id then words else [])
+    → values_at_end id s (between rows p waiting true) words ≡ vals id (settled_rows s.rules p rows) ++ (if bytes_eq plain_name id then words else [])
 behind-values id s h [] rows p waiting =
     sym (append-nil (vals id (settled_rows s.rules p rows))) ∙ ap (λ l. vals id (settled_rows s.rules p rows) ++ l) (nothing_more id (bytes_eq plain_name id) refl)
 behind-values id s h (word ∷ rest) rows p waiting =
-    Z-next id s (mk rows p waiting true) _ word rest _ (walked_behind s h rows p waiting word)
+    values_at_end-next id s (between rows p waiting true) _ word rest _ (walked_behind s h rows p waiting word)
     (behind-values id s h rest (settled_rows s.rules p rows) (Some (codes "plain", word ∷ [])) positional
     ∙ used_plain id s h word (settled_rows s.rules p rows) (if bytes_eq plain_name id then rest else [])
     ∙ ap (λ l. vals id (settled_rows s.rules p rows) ++ l) (all_behind id (bytes_eq plain_name id) refl word rest))
 
 abbrev Idle : Text → Shape → List Text → Bool → List Text → Type 0
 Idle id s rest good next = good ≡ true → (rows : List Row) (p : Option (Text × List Text)) (waiting : Waiting) → NotOption waiting
-    → Z id s (mk rows p waiting false) rest ≡ vals id (settled_rows s.rules p rows) ++ next
+    → values_at_end id s (between rows p waiting false) rest ≡ vals id (settled_rows s.rules p rows) ++ next
 
 abbrev Wait : Text → Shape → List Text → (Text → Bool) → (Text → List Text) → Type 0
 Wait id s rest good next = (name : Text) → is_name name ≡ true → good name ≡ true → (rows : List Row)
-    → Z id s (mk rows (Some (name, [])) (option name) false) rest ≡ vals id rows ++ next name
+    → values_at_end id s (between rows (Some (name, [])) (option name) false) rest ≡ vals id rows ++ next name
 
 module _ (id : Text) (s : Shape) (h : IsSel s) (word : Text) (rest : List Text) (good : Bool) (good_wait : Text → Bool) (next : List Text) (wait : Text → List Text)
     (idle_next : Idle id s rest good next) (wait_next : Wait id s rest good_wait wait) where
   at_name : (rows : List Row) (p : Option (Text × List Text)) (waiting : Waiting) → NotOption waiting → bytes_eq word dashes ≡ false
       → (name : Text) (v : Option Text) → long_of word ≡ Some (name, v) → (m : Bool) → is_name name ≡ m → (m && (if is_some v then good else good_wait name)) ≡ true
-      → Z id s (mk rows p waiting false) (word ∷ rest) ≡ vals id (settled_rows s.rules p rows) ++ values_at_long id word (Some (name, v)) next wait
+      → values_at_end id s (between rows p waiting false) (word ∷ rest) ≡ vals id (settled_rows s.rules p rows) ++ values_at_long id word (Some (name, v)) next wait
   at_name rows p waiting n d name v l false m g = absurd (true≢false (sym g))
   at_name rows p waiting n d name (Some v) l true m g =
-      Z-next id s (mk rows p waiting false) _ word rest _ (walked_assigned s h rows p waiting word name v n d l m)
-      (idle_next g (used (O name) (v ∷ []) (settled_rows s.rules p rows)) None idle tt ∙ vals-more id name v _ _ (settled_rows s.rules p rows) next)
+      values_at_end-next id s (between rows p waiting false) _ word rest _ (walked_assigned s h rows p waiting word name v n d l m)
+      (idle_next g (used (option_argument name) (v ∷ []) (settled_rows s.rules p rows)) None idle tt ∙ vals-more id name v _ _ (settled_rows s.rules p rows) next)
   at_name rows p waiting n d name None l true m g =
-      Z-next id s (mk rows p waiting false) _ word rest _ (walked_named s h rows p waiting word name n d l m) (wait_next name m g (settled_rows s.rules p rows))
+      values_at_end-next id s (between rows p waiting false) _ word rest _ (walked_named s h rows p waiting word name n d l m) (wait_next name m g (settled_rows s.rules p rows))
 
   idle_word : (rows : List Row) (p : Option (Text × List Text)) (waiting : Waiting) → NotOption waiting
       → (d : Bool) (l : Option (Text × Option Text)) (c : Option Text) → bytes_eq word dashes ≡ d → long_of word ≡ l → short_of word ≡ c
       → (if d then true else at_long l c good good_wait) ≡ true
-      → Z id s (mk rows p waiting false) (word ∷ rest) ≡ vals id (settled_rows s.rules p rows)
+      → values_at_end id s (between rows p waiting false) (word ∷ rest) ≡ vals id (settled_rows s.rules p rows)
       ++ (if d then (if bytes_eq plain_name id then rest else []) else values_at_long id word l next wait)
   idle_word rows p waiting n true l c ed el ec g =
-      Z-next id s (mk rows p waiting false) _ word rest _ (walked_dashes s rows p waiting word ed) (behind-values id s h rest rows p waiting)
+      values_at_end-next id s (between rows p waiting false) _ word rest _ (walked_dashes s rows p waiting word ed) (behind-values id s h rest rows p waiting)
   idle_word rows p waiting n false (Some q) c ed el ec g = at_name rows p waiting n ed q.0 q.1 el (is_name q.0) refl g
   idle_word rows p waiting n false None (Some flags) ed el ec g = absurd (true≢false (sym g))
   idle_word rows p waiting n false None None ed el ec g =
-      Z-next id s (mk rows p waiting false) _ word rest _ (walked_plain s h rows p waiting word n ed el ec)
+      values_at_end-next id s (between rows p waiting false) _ word rest _ (walked_plain s h rows p waiting word n ed el ec)
       (idle_next g (settled_rows s.rules p rows) (Some (codes "plain", word ∷ [])) positional tt ∙ used_plain id s h word (settled_rows s.rules p rows) next)
 
   wait_word : (name : Text) → is_name name ≡ true → (rows : List Row)
       → (d : Bool) (l : Option (Text × Option Text)) (c : Option Text) → bytes_eq word dashes ≡ d → long_of word ≡ l → short_of word ≡ c
       → ((not d && (not (is_some l) && not (is_some c))) && good) ≡ true
-      → Z id s (mk rows (Some (name, [])) (option name) false) (word ∷ rest) ≡ vals id rows ++ value_at id name word next
+      → values_at_end id s (between rows (Some (name, [])) (option name) false) (word ∷ rest) ≡ vals id rows ++ value_at id name word next
   wait_word name m rows true l c ed el ec g = absurd (true≢false (sym g))
   wait_word name m rows false (Some q) c ed el ec g = absurd (true≢false (sym g))
   wait_word name m rows false None (Some flags) ed el ec g = absurd (true≢false (sym g))
   wait_word name m rows false None None ed el ec g =
-      Z-next id s (mk rows (Some (name, [])) (option name) false) _ word rest _ (walked_value s h rows name word m (same_bytes name) ed el ec)
+      values_at_end-next id s (between rows (Some (name, [])) (option name) false) _ word rest _ (walked_value s h rows name word m (same_bytes name) ed el ec)
       (idle_next g rows (Some (name, word ∷ [])) idle tt ∙ used_option id s h name word m rows next)
 
 gives : (id : Text) (s : Shape) → IsSel s → (words : List Text)

@@ -8,6 +8,7 @@ pub mod ClapTakes
 pub mod ClapValues
 pub mod ClapFaults
 pub mod ClapWords
+pub mod WordExamples
 pub mod Numbers
 pub mod WordShapes
 pub mod SameParts

@@ -140,9 +140,9 @@ fn obey<'a, S: Shelf, K: Sink, G: Gate>(
     Ended { status, name: "" }
 }
 
-/// Does what the words ask for (`cover GRAMMAR FOREST`, without the program's name): reads the two
-/// texts from the shelf, writes the cheapest cover of each tree to `out`, and says how it ended. The
-/// status's line goes to `err`.
+/// Does what the words ask for (`cover GRAMMAR FOREST` and options in any place, without the program's
+/// name): reads the two texts from the shelf, writes the cheapest cover of each tree to `out`, and says
+/// how it ended. The status's line goes to `err`.
 pub fn run<S: Shelf, K: Sink, E: Sink, G: Gate, Rt: Threads + Sync>(
     _rt: &Rt,
     alloc: Global,

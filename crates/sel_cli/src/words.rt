@@ -72,7 +72,8 @@ fn asked_by<'a>(found: &ArgMatches<'a>) -> Option<Command<'a>>
     command_of(settings, found.get_raw("plain")?)
 }
 
-/// What the words ask for, or None where they are no command.
+/// What the words ask for, or None where they are no command: `MODE GRAMMAR FOREST`, and among them
+/// `--NAME VALUE` or `--NAME=VALUE`. Behind a word `--` no word is an option.
 pub fn read_words<'a>(alloc: Global, words: &'a [String]) -> Result<Option<Command<'a>>, NoMemory>
     ensures { IfOk result (λ answer. option_map task_for answer ≡ command (map string_bytes words.now)) }
 {
