@@ -51,7 +51,8 @@ abbrev pub with_option : List ℕ → Option (List ℕ) → Option Parts → Opt
 with_option name (Some value) behind valued = option_map (with_given name value) behind
 with_option name None behind valued = valued
 
--- the words in parts, where an option waits for its value or none does: behind the first `--` every word is plain
+-- The words in parts; none where they are no command. Behind `--` every word is plain. Another word is an option of a known name, or has no hyphen
+-- in front but that of `-` alone, and is plain. `Some name`: the next word, whatever it is, is the value of the option of this name.
 abbrev pub parts_of : Option (List ℕ) → List (List ℕ) → Option Parts
 parts_of None [] = Some (record { given = []; plain = [] })
 parts_of (Some name) [] = None
