@@ -13,15 +13,14 @@ use Rattle.sel_forest.specs.declared.forest.Cover.{Cover}
 use Rattle.sel_forest.specs.declared.forest.Tree.{Tree}
 use Rattle.sel_forest.specs.declared.forest.Forest.{Forest}
 use Rattle.sel_forest.specs.declared.refusal.ForestFault.{ForestFault}
-use Rattle.sel_forest.specs.Covers.{IsAnswer}
 use Rattle.sel_forest.specs.ForestText.{SpellsForest, IsForestFault}
 use Rattle.sel_forest.proofs.OneForest.{forest_one}
 use Rattle.sel_forest.proofs.OneFault.{fault_one as forest_fault_one, not_forest_and_fault}
 use Rattle.sel_forest.proofs.Roots.{plain_one}
 use Rattle.sel_cli.specs.Words.{TextNames}
 use Rattle.sel_cli.specs.Output.{AreAnswers, IsTreesAnswer, IsOutput}
-use Rattle.sel_cli.specs.Texts.{Request, IsTold, MayBe, HasGrammarText, HasForestText, AcceptsGrammar, AcceptsForest, IsTooLong, RefusesGrammar, RefusesForest, IsWhole, grammar_limit, forest_limit}
-use Rattle.sel_cli.specs.Ends.{Reads, EndsFor, StopsFor, WritesFor, Decides, IsExcused, IsAnswered, finished}
+use Rattle.sel_cli.specs.Texts.{Request, IsTold, MayBe, HasGrammarText, AcceptsForest, IsTooLong, RefusesGrammar, RefusesForest, IsWhole, grammar_limit, forest_limit}
+use Rattle.sel_cli.specs.Ends.{Reads, EndsFor, Decides, IsExcused, IsAnswered, finished}
 use Rattle.sel_cli.specs.declared.status.Status.{Status}
 use Rattle.sel_cli.specs.declared.status.Status.TheVariants.{Done, Usage, ReadFault, TooBig, BadGrammar, BadForest, WriteFault, NoMemory, Uncovered}
 

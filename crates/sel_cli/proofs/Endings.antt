@@ -1,13 +1,13 @@
 -- How the parts of the top call end, and so the whole.
-use Rattle.std.proofs.Common.{◌≡◌, ℕ, ◌+◌, ◌<◌, ◌≤◌, true, false, List, [], length, take, drop, replicate, Option, Some, None, IfSome, refl, sym, ap, subst, ◌∙◌, inl, inr, ◌⊎◌, arith, take-append-drop}
+use Rattle.std.proofs.Common.{◌≡◌, ℕ, ◌+◌, ◌<◌, ◌≤◌, List, length, take, drop, replicate, Option, Some, None, IfSome, refl, sym, ap, subst, ◌∙◌, inl, inr, arith, take-append-drop}
 use Rattle.std.proofs.lemmas.List.{length-replicate}
 use Rattle.sel_base.specs.Causes.{Rose}
 use Rattle.sel_base.specs.Reads.{LastRead}
 use Rattle.sel_grammar.specs.declared.grammar.Grammar.{Grammar}
 use Rattle.sel_forest.specs.declared.forest.Forest.{Forest}
 use Rattle.sel_cli.specs.Words.{TextNames}
-use Rattle.sel_cli.specs.Texts.{Request, MayBe, HasGrammarText, HasForestText, AcceptsGrammar, AcceptsForest, grammar_limit, forest_limit}
-use Rattle.sel_cli.specs.Ends.{Reads, IsWanted, StopsFor, WritesFor, EndsFor, IsFrontOf}
+use Rattle.sel_cli.specs.Texts.{Request, MayBe, AcceptsGrammar, AcceptsForest, grammar_limit, forest_limit}
+use Rattle.sel_cli.specs.Ends.{Reads, StopsFor, EndsFor, IsFrontOf}
 use Rattle.sel_cli.specs.Parts.{FetchesFor, AnswersFor}
 use Rattle.sel_cli.specs.declared.status.Status.{Status}
 use Rattle.sel_cli.specs.declared.status.Status.TheVariants.{Done, Usage, ReadFault, TooBig, BadGrammar, BadForest, WriteFault, NoMemory, Uncovered}

@@ -3,3 +3,12 @@ pub mod Endings
 pub mod Decided
 pub mod Tells
 pub mod Joining
+pub mod ClapReading
+pub mod ClapTakes
+pub mod ClapValues
+pub mod ClapFaults
+pub mod ClapWords
+pub mod WordExamples
+pub mod Numbers
+pub mod WordShapes
+pub mod SameParts

@@ -1,5 +1,9 @@
+pub mod Split
+pub mod Settings
 pub mod Words
 pub mod Names
+pub mod CommandLine
+pub mod Found
 pub mod Output
 pub mod Texts
 pub mod Code

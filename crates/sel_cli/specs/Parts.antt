@@ -1,12 +1,12 @@
 -- How the parts of the top call end.
-use Rattle.std.specs.Prelude.{◌≡◌, ℕ, ◌<◌, Bool, true, false, ◌⊎◌, List, [], length, Option, IfSome}
+use Rattle.std.specs.Prelude.{◌≡◌, ℕ, ◌<◌, true, false, ◌⊎◌, List, [], length, Option, IfSome}
 use Rattle.sel_base.specs.Causes.{Rose}
 use Rattle.sel_grammar.specs.declared.grammar.Grammar.{Grammar}
 use Rattle.sel_forest.specs.declared.forest.Forest.{Forest}
 use Rattle.sel_cli.specs.Output.{IsOutput}
 use Rattle.sel_cli.specs.Ends.{Reads, IsFrontOfAnswers}
 use Rattle.sel_cli.specs.declared.status.Status.{Status}
-use Rattle.sel_cli.specs.declared.status.Status.TheVariants.{Done, Usage, ReadFault, TooBig, BadGrammar, BadForest, WriteFault, NoMemory, Uncovered}
+use Rattle.sel_cli.specs.declared.status.Status.TheVariants.{Done, ReadFault, TooBig, WriteFault, NoMemory, Uncovered}
 
 -- why the text of this name, of which the shelf tells this, was not read
 abbrev pub FetchesFor : Option (List ℕ) → Reads → List ℕ → ℕ → Status → Type 0

@@ -2,9 +2,11 @@
 #![tactic(auto)]
 
 mod answers;
+mod command_line;
 mod lines;
 mod report;
 mod run;
+mod settings;
 mod status;
 mod text;
 mod texts;
@@ -45,3 +47,5 @@ fn main(rt: HostRuntime) -> ExitCode {
 
 #[cfg(test)]
 mod tests;
+#[cfg(test)]
+mod tests_words;

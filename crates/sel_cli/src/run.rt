@@ -8,7 +8,7 @@ ghost use Rattle.sel_grammar.specs.declared.grammar.Grammar.{Grammar as AnyGramm
 ghost use Rattle.sel_forest.specs.Valid.{IsValidForest};
 ghost use Rattle.sel_forest.specs.declared.forest.Forest.{Forest as AnyForest};
 ghost use Rattle.sel_cli.specs.declared.status.Status.{Status as AnyStatus};
-ghost use Rattle.sel_cli.specs.Words.{command};
+ghost use Rattle.sel_cli.specs.Words.{wanted_names};
 ghost use Rattle.sel_cli.specs.Names.{names_of};
 ghost use Rattle.sel_cli.specs.Texts.{IsTold, AcceptsForest};
 ghost use Rattle.sel_cli.specs.Ends.{EndsFor, Ending, Decides, IsExcused, IsAnswered, IsFrontOf, ReadsFor};
@@ -20,8 +20,8 @@ use crate::lines::tell;
 use crate::report::Report;
 use crate::status::Status;
 use crate::texts::{accept_forest, accept_grammar};
-use crate::words::{Command, read_words};
-use sel_base::{Gate, Shelf, Sink, SinkFault, write_all_of};
+use crate::words::{Command, Mode, read_words};
+use sel_base::{Gate, NoMemory, Shelf, Sink, SinkFault, write_all_of};
 use sel_forest::Forest;
 use sel_grammar::Grammar;
 use std::alloc::Global;
@@ -119,7 +119,7 @@ fn obey<'a, S: Shelf, K: Sink, G: Gate>(
     gate: &G,
 ) -> Ended<'a>
     ensures ends { (bytes : List ℕ)
-        × EndsFor (record { wanted = command (map string_bytes words.now); held = S.held shelf.old })
+        × EndsFor (record { wanted = wanted_names (map string_bytes words.now); held = S.held shelf.old })
         (record { before = S.faults shelf.old; after = S.faults shelf.new; last = S.last shelf.new })
         (K.faults out.old) (K.faults out.new) result.name.now bytes result.status
         × (K.taken out.new ≡ append_known (K.taken out.old) bytes) }
@@ -128,20 +128,21 @@ fn obey<'a, S: Shelf, K: Sink, G: Gate>(
     ensures out_later { K.faults out.old ≤ K.faults out.new }
     ensures quiet { (result.status ≢ Status.ReadFault) → S.faults shelf.new ≡ S.faults shelf.old }
     ensures out_quiet { (result.status ≢ Status.WriteFault) → K.faults out.new ≡ K.faults out.old }
-    ensures read { ReadsFor (command (map string_bytes words.now)) (record { before = S.faults shelf.old; after = S.faults shelf.new; last = S.last shelf.new }) result.status }
+    ensures read { ReadsFor (wanted_names (map string_bytes words.now)) (record { before = S.faults shelf.old; after = S.faults shelf.new; last = S.last shelf.new }) result.status }
 {
-    match read_words(words) {
-        Some(command) => cover(alloc, command, shelf, out, gate),
-        None => Ended {
-            status: Status::Usage,
-            name: "",
+    let status = match read_words(alloc, words) {
+        Ok(Some(command)) => match command.mode {
+            Mode::Cover => return cover(alloc, command, shelf, out, gate),
         },
-    }
+        Ok(None) => Status::Usage,
+        Err(NoMemory) => Status::NoMemory,
+    };
+    Ended { status, name: "" }
 }
 
-/// Does what the words ask for (`cover GRAMMAR FOREST`, without the program's name): reads the two
-/// texts from the shelf, writes the cheapest cover of each tree to `out`, and says how it ended. The
-/// status's line goes to `err`.
+/// Does what the words ask for (`cover GRAMMAR FOREST` and options in any place, without the program's
+/// name): reads the two texts from the shelf, writes the cheapest cover of each tree to `out`, and says
+/// how it ended. The status's line goes to `err`.
 pub fn run<S: Shelf, K: Sink, E: Sink, G: Gate, Rt: Threads + Sync>(
     _rt: &Rt,
     alloc: Global,
@@ -152,15 +153,15 @@ pub fn run<S: Shelf, K: Sink, E: Sink, G: Gate, Rt: Threads + Sync>(
     gate: &G,
 ) -> (Status, Report)
     // Each status comes for its cause, with the bytes that it wrote and a front of its line.
-    ensures ends { Ending (record { wanted = command (map string_bytes words.now); held = S.held shelf.old })
+    ensures ends { Ending (record { wanted = wanted_names (map string_bytes words.now); held = S.held shelf.old })
         (record { before = S.faults shelf.old; after = S.faults shelf.new; last = S.last shelf.new })
         (K.faults out.old) (K.faults out.new) (K.taken out.old) (K.taken out.new) (E.taken err.old) (E.taken err.new) result.0 }
     // What the words and told texts decide comes, but for want of memory and faults of the outside.
-    ensures exactly { (status : AnyStatus) → Decides (record { wanted = command (map string_bytes words.now); held = S.held shelf.old }) status
+    ensures exactly { (status : AnyStatus) → Decides (record { wanted = wanted_names (map string_bytes words.now); held = S.held shelf.old }) status
         → (result.0 ≡ status) ⊎ IsExcused result.0 }
     // Where the outside has no fault, accepted texts are answered to the end.
     ensures complete { (grammar : AnyGrammar) (forest : AnyForest)
-        → AcceptsForest IsTold (record { wanted = command (map string_bytes words.now); held = S.held shelf.old }) grammar forest
+        → AcceptsForest IsTold (record { wanted = wanted_names (map string_bytes words.now); held = S.held shelf.old }) grammar forest
         → ¬ Rose (S.faults shelf.old) (S.faults shelf.new) → ¬ Rose (K.faults out.old) (K.faults out.new)
         → (result.0 ≡ Status.NoMemory) ⊎ IsAnswered grammar forest (K.taken out.old) (K.taken out.new) result.0 }
     // Nothing is reported yet.
@@ -168,7 +169,7 @@ pub fn run<S: Shelf, K: Sink, E: Sink, G: Gate, Rt: Threads + Sync>(
     ensures unchanged { S.held shelf.new ≡ S.held shelf.old }
     ensures quiet { (result.0 ≢ Status.ReadFault) → S.faults shelf.new ≡ S.faults shelf.old }
     ensures out_quiet { (result.0 ≢ Status.WriteFault) → K.faults out.new ≡ K.faults out.old }
-    ensures read { ReadsFor (command (map string_bytes words.now)) (record { before = S.faults shelf.old; after = S.faults shelf.new; last = S.last shelf.new }) result.0 }
+    ensures read { ReadsFor (wanted_names (map string_bytes words.now)) (record { before = S.faults shelf.old; after = S.faults shelf.new; last = S.last shelf.new }) result.0 }
     ensures later { (S.faults shelf.old ≤ S.faults shelf.new) × (K.faults out.old ≤ K.faults out.new) × (E.faults err.old ≤ E.faults err.new) }
 {
     let ended = obey(alloc, words, shelf, out, gate);

@@ -1,21 +1,38 @@
 // What the words ask for.
-ghost use Rattle.std.specs.Prelude.{◌≡◌, map, option_map, string_bytes};
-ghost use Rattle.sel_cli.specs.Words.{command, is_option, is_shipped};
-ghost use Rattle.sel_cli.specs.Names.{names_of};
+ghost use Rattle.std.specs.Prelude.{◌≡◌, map, option_map, option_and_then, string_bytes, IfOk};
+ghost use Rattle.sel_cli.specs.Words.{command, is_shipped, mode_of, task_of, asked_by};
+ghost use Rattle.sel_cli.specs.Names.{names_of, task_for};
+ghost use Rattle.sel_cli.specs.Found.{IsFound};
+ghost use Rattle.sel_cli.specs.Split.{Parts};
 
-/// The names of the two texts.
+use crate::command_line::take_apart;
+use crate::settings::{Settings, chosen_settings};
+use clap::ArgMatches;
+use sel_base::NoMemory;
+use std::alloc::Global;
+
+/// What is to be done with the texts.
 #[derive(Clone, Copy)]
-pub struct Command<'a> {
-    pub grammar: &'a str,
-    pub forest: &'a str,
+pub enum Mode {
+    /// The cheapest cover of each tree.
+    Cover,
 }
 
-fn is_option(word: &str) -> bool
-    ensures { result ≡ is_option word.now }
+/// What the words ask for: the mode, the names of the two texts, and what the options say.
+#[derive(Clone, Copy)]
+pub struct Command<'a> {
+    pub mode: Mode,
+    pub grammar: &'a str,
+    pub forest: &'a str,
+    pub settings: Settings,
+}
+
+fn mode_of(word: &str) -> Option<Mode>
+    ensures { result ≡ mode_of word.now }
 {
-    match word.as_bytes() {
-        [b'-', _, ..] => true,
-        _ => false,
+    match word {
+        "cover" => Some(Mode::Cover),
+        _ => None,
     }
 }
 
@@ -28,24 +45,40 @@ fn is_shipped(word: &str) -> bool
     }
 }
 
-/// The words `cover GRAMMAR FOREST`, or None where the words are no command.
-pub fn read_words(words: &[String]) -> Option<Command<'_>>
-    ensures { option_map names_of result ≡ command (map string_bytes words.now) }
+fn command_of<'a>(settings: Settings, plain: &[&'a str]) -> Option<Command<'a>>
+    ensures { option_map task_for result ≡ task_of settings (map (λ word. word.now) plain.now) }
 {
-    match words {
+    match plain {
         [mode, grammar, forest] => {
-            let grammar = grammar.as_str();
-            let forest = forest.as_str();
-            if mode.as_str() == "cover"
-                && !is_option(grammar)
-                && !is_shipped(grammar)
-                && !is_option(forest)
-            {
-                Some(Command { grammar, forest })
-            } else {
-                None
+            let mode = mode_of(mode)?;
+            if is_shipped(grammar) {
+                return None;
             }
+            Some(Command {
+                mode,
+                grammar,
+                forest,
+                settings,
+            })
         }
         _ => None,
     }
+}
+
+fn asked_by<'a>(found: &ArgMatches<'a>) -> Option<Command<'a>>
+    ensures { (parts : Parts) → IsFound found.now parts → option_map task_for result ≡ asked_by parts }
+{
+    let settings = chosen_settings(found)?;
+    command_of(settings, found.get_raw("plain")?)
+}
+
+/// What the words ask for, or None where they are no command: `MODE GRAMMAR FOREST`, and among them
+/// `--NAME VALUE` or `--NAME=VALUE`. Behind a word `--` no word is an option.
+pub fn read_words<'a>(alloc: Global, words: &'a [String]) -> Result<Option<Command<'a>>, NoMemory>
+    ensures { IfOk result (λ answer. option_map task_for answer ≡ command (map string_bytes words.now)) }
+{
+    let Some(found) = take_apart(alloc, words)? else {
+        return Ok(None);
+    };
+    Ok(asked_by(&found))
 }

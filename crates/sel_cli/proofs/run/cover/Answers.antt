@@ -1,5 +1,5 @@
 use Rattle.std.proofs.Common.{[], sym, refl, inl}
-use Rattle.sel_cli.proofs.Endings.{stop_later, answer_ends, rose_after}
+use Rattle.sel_cli.proofs.Endings.{stop_later, answer_ends}
 use Rattle.sel_base.proofs.Taken.{append_known-nil}
 use Rattle.sel_cli.proofs.run.cover.Goals as goal
 

@@ -1,0 +1,56 @@
+-- Lists of words, with what they ask for, by hand.
+use Rattle.std.proofs.Common.{◌≡◌, [], ◌∷◌, Option, Some, None, refl, codes}
+use Rattle.sel_cli.specs.declared.settings.Settings.{Settings}
+use Rattle.sel_cli.specs.declared.words.Mode.TheVariants.{Cover}
+use Rattle.sel_cli.specs.Words.{Task, command}
+
+abbrev plain_settings : Settings
+plain_settings = record { workers = 4; states = 4096; rows = 65536; seed = 1; trees = 1000; size = 64 }
+
+abbrev plain : Settings → Option Task
+plain settings = Some (record { mode = Cover; names = record { grammar = codes "g0"; forest = codes "f" }; settings = settings })
+
+abbrev no : Option Task
+no = None
+
+three_words : command (codes "cover" ∷ codes "g0" ∷ codes "f" ∷ []) ≡ plain plain_settings
+three_words = refl
+
+one_word_option : command (codes "cover" ∷ codes "--workers=4" ∷ codes "g0" ∷ codes "f" ∷ []) ≡ plain plain_settings
+one_word_option = refl
+
+two_word_option : command (codes "cover" ∷ codes "g0" ∷ codes "--workers" ∷ codes "64" ∷ codes "f" ∷ []) ≡ plain (record plain_settings { workers = 64 })
+two_word_option = refl
+
+behind_hyphens : command (codes "cover" ∷ codes "g0" ∷ codes "--" ∷ codes "f" ∷ []) ≡ plain plain_settings
+behind_hyphens = refl
+
+no_words : command [] ≡ no
+no_words = refl
+
+too_few : command (codes "cover" ∷ codes "g0" ∷ []) ≡ no
+too_few = refl
+
+too_many : command (codes "cover" ∷ codes "g0" ∷ codes "f" ∷ codes "f" ∷ []) ≡ no
+too_many = refl
+
+too_many_workers : command (codes "cover" ∷ codes "g0" ∷ codes "f" ∷ codes "--workers" ∷ codes "65" ∷ []) ≡ no
+too_many_workers = refl
+
+twice : command (codes "cover" ∷ codes "g0" ∷ codes "f" ∷ codes "--workers" ∷ codes "1" ∷ codes "--workers" ∷ codes "1" ∷ []) ≡ no
+twice = refl
+
+unknown : command (codes "cover" ∷ codes "g0" ∷ codes "f" ∷ codes "-x" ∷ []) ≡ no
+unknown = refl
+
+shipped : command (codes "cover" ∷ codes "@mips" ∷ codes "f" ∷ []) ≡ no
+shipped = refl
+
+hyphens_for_a_value : command (codes "cover" ∷ codes "g0" ∷ codes "--rows" ∷ codes "--" ∷ codes "f" ∷ []) ≡ no
+hyphens_for_a_value = refl
+
+largest_seed : command (codes "cover" ∷ codes "g0" ∷ codes "f" ∷ codes "--seed=18446744073709551615" ∷ []) ≡ plain (record plain_settings { seed = 18446744073709551615 })
+largest_seed = refl
+
+seed_too_large : command (codes "cover" ∷ codes "g0" ∷ codes "f" ∷ codes "--seed=18446744073709551616" ∷ []) ≡ no
+seed_too_large = refl
