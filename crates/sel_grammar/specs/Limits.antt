@@ -13,13 +13,68 @@ most_nonterminals = 64
 abbrev pub most_rules : ℕ
 most_rules = 1023
 
+-- how many names a pattern may have, its root's among them
+abbrev pub most_names : ℕ
+most_names = 63
+
+-- how many nonterminals the normal form of a grammar may have
+abbrev pub most_normal_nonterminals : ℕ
+most_normal_nonterminals = 512
+
+-- how many kids an operator may have
+abbrev pub most_kids : ℕ
+most_kids = 2
+
 -- the greatest number of a rule's cost
 abbrev pub greatest_cost : ℕ
 greatest_cost = 65535
 
--- the greatest number that `%term` gives an operator
+-- the greatest number that `%term` gives an operator, and that a BURG rule gives itself
 abbrev pub greatest_external : ℕ
 greatest_external = 4294967295
+
+-- no text of the form goes on with this token
+abbrev pub token : ℕ
+token = 1
+
+abbrev pub no_rules : ℕ
+no_rules = 2
+
+abbrev pub duplicate_term : ℕ
+duplicate_term = 3
+
+abbrev pub arity : ℕ
+arity = 4
+
+abbrev pub term_on_left : ℕ
+term_on_left = 5
+
+abbrev pub no_rule : ℕ
+no_rule = 6
+
+abbrev pub cost_form : ℕ
+cost_form = 7
+
+abbrev pub cost_large : ℕ
+cost_large = 8
+
+abbrev pub template_form : ℕ
+template_form = 9
+
+abbrev pub kid_number : ℕ
+kid_number = 10
+
+abbrev pub result_in_fragment : ℕ
+result_in_fragment = 11
+
+abbrev pub range_place : ℕ
+range_place = 12
+
+abbrev pub too_many : ℕ
+too_many = 13
+
+abbrev pub zero_cycle : ℕ
+zero_cycle = 14
 
 -- the text has no form that this version reads
 abbrev pub unbuilt : ℕ
@@ -28,7 +83,7 @@ unbuilt = 15
 -- an operator takes none, one or two kids, or it is open how many
 abbrev pub IsArity : Option ℕ → Type 0
 IsArity None = Unit {0}
-IsArity (Some kids) = kids ≤ 2
+IsArity (Some kids) = kids ≤ most_kids
 
 -- What each grammar keeps that a text spells.
 pub record IsWithinLimits (g : Grammar) : Type 0 where
