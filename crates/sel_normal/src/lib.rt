@@ -1,6 +1,7 @@
 //! The normal form of a grammar: each rule has one operator over nonterminals, or is a chain rule.
 #![tactic(auto)]
 
+mod check;
 mod cut;
 mod form;
 mod normal;
