@@ -1,7 +1,10 @@
 pub mod Bits
 pub mod Cases
 pub mod Closing
+pub mod Cutting
 pub mod Examples
+pub mod Faulty
 pub mod Helpers
+pub mod Kept
 pub mod Rests
 pub mod Steps

@@ -40,6 +40,15 @@ pub fn count_nonterminals(grammar: &Grammar) -> Result<u16, GrammarRefusal>
     Ok(count)
 }
 
+/// Whether `from` is `to`, or leads there.
+fn leads_back(from: u16, to: u16, leads: &[u64]) -> bool
+    requires from { from < length leads.now }
+    requires to { to < most_nonterminals }
+    ensures { IsTrue result ↔ ((from ≡ to) ⊎ Leads leads.now from to) }
+{
+    from == to || has_bit(leads, from as usize, to as usize)
+}
+
 /// Whether the rule is a free chain rule, and free chain rules lead from where it leads back to its left
 /// side.
 fn stands_on_cycle(rule: &Rule, leads: &[u64]) -> bool
@@ -48,7 +57,7 @@ fn stands_on_cycle(rule: &Rule, leads: &[u64]) -> bool
     ensures { IsTrue result ↔ ((m : ℕ) × IsFreeChain rule.now m × ((m ≡ rule.now.left) ⊎ Leads leads.now m rule.now.left)) }
 {
     match free_target(rule) {
-        Some(to) => to == rule.left || has_bit(leads, to as usize, rule.left as usize),
+        Some(to) => leads_back(to, rule.left, leads),
         None => false,
     }
 }
