@@ -1,11 +1,18 @@
 // A normal form, and what it tells.
-ghost use Rattle.std.specs.Prelude.{◌≡◌, ◌<◌, ◌≤◌, Some, None, length};
-ghost use Rattle.sel_grammar.specs.Limits.{most_normal_nonterminals};
+ghost use Rattle.std.specs.Prelude.{◌≡◌, ◌+◌, ◌≤◌, Some, None, length, IfOk, IfErr, nat_le, if◌then◌else◌};
+ghost use Rattle.sel_grammar.specs.Lawful.{IsLawful};
+ghost use Rattle.sel_grammar.specs.Limits.{most_rules, most_normal_nonterminals};
+ghost use Rattle.sel_normal.specs.Forms.{IsFormOf};
+ghost use Rattle.sel_normal.specs.NormalFaults.{IsAccepted, NormalRefusedFor};
 ghost use Rattle.sel_normal.specs.NormalForms.{normal_at};
 ghost use Rattle.sel_normal.specs.Standing.{IsRuleWithin};
 
+use crate::check::{check_cycles, count_nonterminals};
+use crate::form::{cut_rules, push_helper_rules, tests_of};
+use crate::reach::free_leads;
 use sel_base::{List, Range};
-use sel_grammar::RuleCost;
+use sel_grammar::{Grammar, GrammarRefusal, RuleCost};
+use std::alloc::Global;
 use std::marker::Model;
 
 /// The right side of a normal rule: a normal nonterminal, or an operator over the normal
@@ -64,11 +71,68 @@ impl Model for Normal {
 }
 
 impl Normal {
+    /// The normal form of the grammar, with the helpers' rules behind the user's. A fault (after 'as
+    /// many normal nonterminals as there may be' the cycles are looked for) stands at the left name of
+    /// the rule that it is found at: kind 13 at the first rule whose helpers are too many, kind 14 at the
+    /// first rule that stands on a cycle of chain rules which cost nothing.
+    pub fn of(alloc: Global, grammar: &Grammar) -> Result<Normal, GrammarRefusal>
+        requires lawful { IsLawful grammar.now }
+        ensures form { IfOk result (λ normal. IsFormOf grammar.now normal) }
+        ensures accepted { IfOk result (λ _. IsAccepted grammar.now) }
+        ensures fault { IfErr result (λ refusal. NormalRefusedFor grammar.now refusal) }
+    {
+        let nonterminals = count_nonterminals(grammar)?;
+        let leads = free_leads(alloc, grammar)?;
+        check_cycles(grammar, leads.as_slice())?;
+        let mut rules = cut_rules(alloc, grammar)?;
+        push_helper_rules(grammar, &mut rules)?;
+        let tests = tests_of(alloc, grammar)?;
+        Ok(Normal {
+            nonterminals,
+            user_rules: grammar.rules.len() as u16,
+            rules,
+            tests: List::from_vec(tests),
+        })
+    }
+
     /// How many normal nonterminals there are.
     pub fn nonterminals(&self) -> u16
         ensures is { result ≡ self.now.nonterminals }
         ensures few { result ≤ most_normal_nonterminals }
     {
         self.nonterminals
+    }
+
+    /// How many normal rules there are.
+    pub fn rules(&self) -> u16
+        ensures is { result ≡ length self.now.rules }
+        ensures few { result ≤ most_rules + most_normal_nonterminals }
+        ensures users { self.now.user_rules ≤ result }
+    {
+        self.rules.len() as u16
+    }
+
+    /// The number of the user's rule that the normal rule of a number, from 1, was cut from: its own. None
+    /// for a helper's rule.
+    pub fn user_rule(&self, rule: u16) -> Option<u16>
+        requires from { 1 ≤ rule }
+        requires to { rule ≤ length self.now.rules }
+        ensures { result ≡ (if nat_le rule self.now.user_rules then Some rule else None) }
+    {
+        if rule <= self.user_rules {
+            Some(rule)
+        } else {
+            None
+        }
+    }
+
+    /// The normal rule of a number, from 1.
+    pub fn rule(&self, rule: u16) -> NormalRule
+        requires from { 1 ≤ rule }
+        requires to { rule ≤ length self.now.rules }
+        ensures is { normal_at self.now rule ≡ Some result }
+        ensures within { IsRuleWithin self.now result }
+    {
+        self.rules[rule as usize - 1]
     }
 }
