@@ -1,0 +1,4 @@
+pub mod Counting
+pub mod Deciding
+pub mod Occurring
+pub mod Sorting
