@@ -1,5 +1,5 @@
 -- Counting the numbers of a list that are at most a number, those that are equal counted once.
-use Rattle.std.proofs.Common.{◌≡◌, ℕ, zero, suc, ◌+◌, ◌<◌, ◌≤◌, ◌⊎◌, inl, inr, Bool, true, false, cond, ◌&&◌, ◌||◌, List, [], ◌∷◌, length, refl, ap, sym, ◌∙◌, subst, arith, ℤ, pos, ◌+ℤ◌, ◌<ℤ◌, ◌≤ℤ◌}
+use Rattle.std.proofs.Common.{◌≡◌, ℕ, ◌+◌, ◌≤◌, ◌⊎◌, inl, inr, Bool, true, false, cond, ◌&&◌, List, [], ◌∷◌, length, refl, ap, sym, ◌∙◌, subst, arith, ℤ, ◌<ℤ◌, ◌≤ℤ◌}
 use Rattle.std.specs.Prelude.{int_le}
 use Rattle.std.specs.List.{count_by, filter}
 use Rattle.std.specs.Ordering.{int_eq}

@@ -1,21 +1,21 @@
 -- A number's class tells on which side of each cut it is, and so which tests hold of it.
-use Rattle.std.proofs.Common.{◌≡◌, ℕ, zero, suc, ◌+◌, ◌*◌, ◌<◌, ◌≤◌, ◌⊎◌, inl, inr, Bool, true, false, cond, ◌&&◌, ◌||◌, List, [], ◌∷◌, ◌++◌, length, length-append, get_or, map, refl, ap, sym, ◌∙◌, subst, arith, Option, Some, None, slice_get, ℤ, pos, ◌+ℤ◌, ◌<ℤ◌, ◌≤ℤ◌}
+use Rattle.std.proofs.Common.{◌≡◌, ℕ, zero, suc, ◌+◌, ◌*◌, ◌<◌, ◌≤◌, Bool, true, false, cond, ◌&&◌, List, [], ◌∷◌, length, length-append, get_or, map, refl, ap, sym, ◌∙◌, subst, arith, Some, None, slice_get, ℤ, pos, ◌+ℤ◌, ◌<ℤ◌, ◌≤ℤ◌}
 use Rattle.std.specs.Prelude.{◌↔◌, IsTrue, int_le, int_lt, nat_le}
-use Rattle.std.specs.List.{filter, flat_map}
+use Rattle.std.specs.List.{filter}
 use Rattle.std.specs.Ordering.{int_eq}
 use Rattle.std.specs.Set.{distinct_count, is_member, unique_keys}
 use Rattle.std.proofs.lemmas.Bool.{or_left, or_right}
 use Rattle.std.proofs.lemmas.Bool.Decides.{Decides-int_eq, nat_tests}
 use Rattle.std.proofs.lemmas.Int.{ints, by_lt_z}
 use Rattle.std.proofs.lemmas.List.Folds.{list_any-append}
-use Rattle.std.proofs.lemmas.List.Sums.{count_by-le-length, length-filter}
+use Rattle.std.proofs.lemmas.List.Sums.{count_by-le-length}
 use Rattle.std.proofs.lemmas.Map.Made.{distinct_count-le}
 use Rattle.sel_base.specs.declared.range.Range.{Range}
 use Rattle.sel_range.specs.declared.span.Span.{Span}
-use Rattle.sel_range.specs.Limits.{IsAttributeValue, greatest_number, most_tests, greatest_class}
-use Rattle.sel_range.specs.Classes.{cuts, cuts_of, cuts_behind, class_of, passes, holds, Occurs, HoldsOfClass}
+use Rattle.sel_range.specs.Limits.{greatest_number, most_tests}
+use Rattle.sel_range.specs.Classes.{cuts, cuts_of, cuts_behind, class_of, holds, Occurs, HoldsOfClass}
 use Rattle.sel_range.specs.SortedCuts.{AreInOrder, class_among, span_among, spans_class}
-use Rattle.sel_range.specs.Laws.{ClassDecides, ClassmatesPassAlike, ClassesAreFew}
+use Rattle.sel_range.specs.Laws.{ClassDecides, PassesByClass, ClassesAreFew}
 use Rattle.sel_range.proofs.Counting.{le_true, le_false, true_le, count_mono, count_strict, distinct_to, member_unique}
 
 -- a lesser number has no greater class
@@ -122,8 +122,8 @@ class_decides tests i r (Some v) at fits = go (int_le r.lo r.hi) refl
     go true k = ap (λ b. b && (nat_le (class_of tests (Some r.lo)) (class_of tests (Some v)) && nat_le (class_of tests (Some v)) (class_of tests (Some r.hi)))) k ∙ (λ j. low tests i r at k v j && high tests i r at k v fits.high j)
     go false k = ap (λ b. b && (nat_le (class_of tests (Some r.lo)) (class_of tests (Some v)) && nat_le (class_of tests (Some v)) (class_of tests (Some r.hi)))) k ∙ sym (none_between r.lo r.hi v k)
 
-pub classmates_pass_alike : ClassmatesPassAlike
-classmates_pass_alike tests i r a b at here there same =
+pub passes_by_class : PassesByClass
+passes_by_class tests i r a b at here there same =
     sym (class_decides tests i r a at here) ∙ ap (λ class. holds tests class r) same ∙ class_decides tests i r b at there
 
 two_cuts : (r : Range) → length (cuts_of r) ≤ 2

@@ -1,16 +1,14 @@
 -- Which classes occur.
-use Rattle.std.proofs.Common.{◌≡◌, ℕ, ◌+◌, ◌-◌, ◌<◌, ◌≤◌, ◌⊎◌, inl, inr, Bool, true, ◌&&◌, List, length, get_or, refl, ap, sym, ◌∙◌, subst, arith, Option, Some, None, ℤ, pos, ◌+ℤ◌, ◌-ℤ◌, ◌<ℤ◌, ◌≤ℤ◌}
+use Rattle.std.proofs.Common.{◌≡◌, ℕ, ◌+◌, ◌-◌, ◌<◌, ◌≤◌, ◌⊎◌, inl, inr, true, List, length, get_or, sym, subst, arith, Option, Some, None, ℤ, pos, ◌-ℤ◌, ◌<ℤ◌, ◌≤ℤ◌}
 use Rattle.std.specs.Prelude.{◌↔◌, IsTrue, nat_le}
 use Rattle.std.specs.List.{Contains}
-use Rattle.std.specs.Ordering.{int_eq}
-use Rattle.std.specs.Set.{is_member}
 use Rattle.std.proofs.lemmas.Bool.{and_from, and_parts, cases_lt, cases_order, le-leb, leb-true}
 use Rattle.std.proofs.lemmas.Bool.Decides.{Decides-int_eq}
 use Rattle.std.proofs.lemmas.Int.{by_lt_z, ints}
 use Rattle.std.proofs.lemmas.List.Elements.{Contains-get_or}
 use Rattle.std.proofs.lemmas.Map.Made.{is_member-Decides}
 use Rattle.sel_base.specs.declared.range.Range.{Range}
-use Rattle.sel_range.specs.Limits.{IsAttributeValue, IsAttributeNumber, least_number, greatest_number}
+use Rattle.sel_range.specs.Limits.{IsAttributeNumber, least_number}
 use Rattle.sel_range.specs.Classes.{cuts, class_of, last_class, Occurs, OccursByRule}
 use Rattle.sel_range.specs.SortedCuts.{AreInOrder, spans_class}
 use Rattle.sel_range.specs.declared.span.Span.{Span}
@@ -30,6 +28,11 @@ occurs_between tests class (Some v, fits, e) =
     let m = class_mono tests least_number v fits.low in
     let l = class_most tests v in
     inr (omega arith, omega arith)
+
+-- no class is above the last
+pub class_last : (tests : List Range) (number : Option ℤ) → class_of tests number ≤ last_class tests
+class_last tests None = omega arith
+class_last tests (Some v) = let m = class_most tests v in omega arith
 
 module _ (tests : List Range) (sorted : List ℤ) (o : AreInOrder (cuts tests) sorted) where
   -- each cut is the least number of a class
@@ -51,6 +54,9 @@ module _ (tests : List Range) (sorted : List ℤ) (o : AreInOrder (cuts tests) s
           let c = cut_class (class - 2) (pos 0) in' in
           (Some (get_or sorted (class - 2) (pos 0)), o.numbers (class - 2) (pos 0) in', omega arith)
       by (inr (inr l)) = absurd (omega arith)
+
+  pub last_occurs : Occurs tests (last_class tests)
+  last_occurs = between_occurs (last_class tests) (inr (class_last tests (Some least_number), omega arith))
 
   -- where the least number is a cut, its class is above 1
   cut_above : Contains (cuts tests) least_number → 2 ≤ class_of tests (Some least_number)

@@ -1,29 +1,24 @@
 -- Cuts in order: what sorting leaves, and where a number stands among them.
-use Rattle.std.proofs.Common.{◌≡◌, ℕ, zero, suc, ◌+◌, ◌<◌, ◌≤◌, ◌⊎◌, inl, inr, Bool, true, false, cond, ◌&&◌, List, [], ◌∷◌, length, get_or, refl, ap, sym, ◌∙◌, subst, arith, ℤ, pos, ◌+ℤ◌, ◌<ℤ◌, ◌≤ℤ◌, w64}
-use mir.Val.{SFits}
-use Rattle.std.specs.Prelude.{int_le, int_lt}
-use Rattle.std.specs.Bool.{Decides}
+use Rattle.std.proofs.Common.{◌≡◌, ℕ, zero, suc, ◌+◌, ◌<◌, ◌≤◌, ◌⊎◌, inl, inr, Bool, true, false, ◌&&◌, List, [], ◌∷◌, length, get_or, refl, ap, sym, ◌∙◌, subst, arith, ℤ, ◌<ℤ◌, ◌≤ℤ◌}
+use Rattle.std.specs.Prelude.{int_le}
 use Rattle.std.specs.List.{All, AllPairs, Contains, count_by, dedup, filter}
 use Rattle.std.specs.List.Sorted.{IsPartitionPoint, IsPartitionedBy, IsPermutation, IsSorted, IsStrictlySortedBy}
 use Rattle.std.specs.Ordering.{int_cmp, int_eq}
-use Rattle.std.specs.Set.{distinct_count, is_member}
-use Rattle.std.specs.declared.cmp.Ordering.{Ordering}
+use Rattle.std.specs.Set.{is_member}
 use Rattle.std.specs.declared.cmp.Ordering.TheVariants.{Less}
 use Rattle.std.proofs.lemmas.Bool.{cases_order}
 use Rattle.std.proofs.lemmas.Bool.Decides.{Decides-int_eq, same_from_decides}
 use Rattle.std.proofs.lemmas.Cmp.{int_cmp_total, int_eq_equiv, int_ranked}
 use Rattle.std.proofs.lemmas.Int.{ints}
 use Rattle.std.proofs.lemmas.List.{get_or_default}
-use Rattle.std.proofs.lemmas.List.Elements.{All-cons, All-from_recursion, All-nil, All-weaker}
+use Rattle.std.proofs.lemmas.List.Elements.{All-from_recursion, All-weaker}
 use Rattle.std.proofs.lemmas.List.Filters.{All-dedup}
 use Rattle.std.proofs.lemmas.List.Kept.{AllPairs-cons, Contains-dedup, Contains-from_dedup, IsStrictlySortedBy-dedup, IsStrictlySortedBy-filter}
 use Rattle.std.proofs.lemmas.List.Sorted.{All-permutation, Contains-permutation, IsPermutation-sym}
 use Rattle.std.proofs.lemmas.List.Sums.{length-filter, sum_by-cons}
 use Rattle.std.proofs.lemmas.Map.Keys.{IsDistinct-from_sorted}
 use Rattle.std.proofs.lemmas.Map.Made.{alike_from_same, is_member-Decides, is_member-filter, length-from_keys}
-use Rattle.sel_base.specs.declared.range.Range.{Range}
-use Rattle.sel_range.specs.Limits.{IsAttributeNumber, least_number, greatest_number}
-use Rattle.sel_range.specs.Classes.{cuts_of}
+use Rattle.sel_range.specs.Limits.{IsAttributeNumber}
 use Rattle.sel_range.specs.SortedCuts.{AreInOrder}
 use Rattle.sel_range.proofs.Counting.{le_true, le_false, true_le, lt_le, bit, count_to}
 
@@ -63,7 +58,7 @@ module _ (all moved sorted : List ℤ) (perm : IsPermutation all moved) (up : Is
     numbers = subst (All IsAttributeNumber) (sym is) (All-dedup int_eq IsAttributeNumber moved (All-permutation IsAttributeNumber all moved perm numbers));
     ascend = ascend sorted strict;
     count = λ v. sym (length-filter (λ c. int_le c v) sorted)
-      ∙ length-from_keys int_eq_equiv (filter (λ c. int_le c v) sorted) (filter (λ c. int_le c v) all) (IsDistinct-from_sorted int_cmp _ (IsStrictlySortedBy-filter int_cmp (λ c. int_le c v) sorted strict)) (filtered (λ c. int_le c v));
+        ∙ length-from_keys int_eq_equiv (filter (λ c. int_le c v) sorted) (filter (λ c. int_le c v) all) (IsDistinct-from_sorted int_cmp _ (IsStrictlySortedBy-filter int_cmp (λ c. int_le c v) sorted strict)) (filtered (λ c. int_le c v));
     total = length-from_keys int_eq_equiv sorted all (IsDistinct-from_sorted int_cmp sorted strict) members;
     members = to_all;
   }
@@ -118,22 +113,3 @@ count_cut xs i d up in' = count_at (get_or xs i d) xs (i + 1) (omega arith) (bef
 
     after : (k : ℕ) (e : ℤ) → i + 1 ≤ k → k < length xs → int_le (get_or xs k e) (get_or xs i d) ≡ false
     after k e l m = subst (λ x. int_le x (get_or xs i d) ≡ false) (get_or_default xs k d e m) (le_false (get_or xs k d) (get_or xs i d) (up i k d (omega arith) m))
-
-attribute_number : (z : ℤ) → SFits w64 z → IsAttributeNumber z
-attribute_number z h = record { low = omega (arith, ints); high = omega (arith, ints) }
-
--- the cuts of a test are signed 64-bit numbers, as its bounds are
-pub cuts_fit : (r : Range) → SFits w64 r.lo → SFits w64 r.hi → All IsAttributeNumber (cuts_of r)
-cuts_fit r lo hi = by (int_le r.lo r.hi) (int_lt r.hi greatest_number) refl
-  where
-    next : int_lt r.hi greatest_number ≡ true → IsAttributeNumber (r.hi +ℤ pos 1)
-    next h =
-        let n = attribute_number r.hi hi in
-        let low : least_number ≤ℤ (r.hi +ℤ pos 1) = omega (arith, ints) in
-        let high : (r.hi +ℤ pos 1) ≤ℤ greatest_number = grind (arith, ints) in
-        record { low = low; high = high }
-
-    by : (a b : Bool) → int_lt r.hi greatest_number ≡ b → All IsAttributeNumber (cond a (r.lo ∷ cond b ((r.hi +ℤ pos 1) ∷ []) []) [])
-    by true true h = All-cons IsAttributeNumber r.lo ((r.hi +ℤ pos 1) ∷ []) (attribute_number r.lo lo) (All-cons IsAttributeNumber (r.hi +ℤ pos 1) [] (next h) (All-nil IsAttributeNumber))
-    by true false h = All-cons IsAttributeNumber r.lo [] (attribute_number r.lo lo) (All-nil IsAttributeNumber)
-    by false b h = All-nil IsAttributeNumber

@@ -8,9 +8,9 @@ use Rattle.sel_range.specs.Limits.{IsAttributeValue, most_tests, greatest_class}
 abbrev pub ClassDecides : Type 0
 ClassDecides = (tests : List Range) (i : ℕ) (r : Range) (number : Option ℤ) → slice_get tests i ≡ Some r → IsAttributeValue number → holds tests (class_of tests number) r ≡ passes r number
 
--- all numbers of one class pass the same tests
-abbrev pub ClassmatesPassAlike : Type 0
-ClassmatesPassAlike = (tests : List Range) (i : ℕ) (r : Range) (a b : Option ℤ) → slice_get tests i ≡ Some r → IsAttributeValue a → IsAttributeValue b → class_of tests a ≡ class_of tests b → passes r a ≡ passes r b
+-- all numbers of one class pass the same tests: whether a test holds rests on the class alone
+abbrev pub PassesByClass : Type 0
+PassesByClass = (tests : List Range) (i : ℕ) (r : Range) (a b : Option ℤ) → slice_get tests i ≡ Some r → IsAttributeValue a → IsAttributeValue b → class_of tests a ≡ class_of tests b → passes r a ≡ passes r b
 
 -- no class is above the greatest
 abbrev pub ClassesAreFew : Type 0

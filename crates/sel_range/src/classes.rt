@@ -1,4 +1,4 @@
-ghost use Rattle.std.specs.Prelude.{◌≡◌, ◌<◌, ◌≤◌, ◌↔◌, IsTrue, IfOk, IfSome, length, slice_get};
+ghost use Rattle.std.specs.Prelude.{◌≡◌, ◌<◌, ◌≤◌, ◌↔◌, ℤ, Option, IsTrue, IfOk, IfSome, length, slice_get};
 ghost use Rattle.sel_range.specs.Classes.{class_of, last_class, Occurs, OccursByRule, holds, HoldsOfClass};
 ghost use Rattle.sel_range.specs.Limits.{most_tests};
 
@@ -59,9 +59,11 @@ impl Classes {
         }
     }
 
-    /// The greatest class. It occurs, being the class of the greatest number.
+    /// The greatest class, that of the greatest number.
     pub fn last(&self) -> u16
-        ensures { result ≡ last_class self.now }
+        ensures count { result ≡ last_class self.now }
+        ensures greatest { (number : Option ℤ) → class_of self.now number ≤ result }
+        ensures occurs { Occurs self.now result }
     {
         self.cuts.len() as u16 + 1
     }

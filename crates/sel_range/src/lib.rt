@@ -9,5 +9,5 @@ mod span;
 
 pub use classes::Classes;
 
-
-
+#[cfg(test)]
+mod tests;

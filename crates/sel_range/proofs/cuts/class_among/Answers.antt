@@ -1,4 +1,4 @@
-use Rattle.std.proofs.Common.{◌≡◌, ◌+◌, ap, sym, rules}
+use Rattle.std.proofs.Common.{◌+◌, ap, sym, rules}
 use Rattle.std.specs.Prelude.{int_le}
 use Rattle.std.proofs.lemmas.List.Sorted.{IsPartitionPoint-from_clause}
 use Rattle.sel_range.proofs.Sorting.{count_at, parted}
