@@ -64,8 +64,8 @@ module _ (g : Grammar) where
   body_at k (Binary' op s (more_of-Pattern p end_of-Pattern) s' (more_of-Pattern q end_of-Pattern)) before after low h e = (
     head_at k p before (parts q ++ after) (low.1).0 (h ∙ ap (λ l. before ++ l) (append_assoc (parts p) (parts q) after)) e,
     head_at (k + length (parts p)) q (before ++ parts p) after (low.1).1
-    (h ∙ ap (λ l. before ++ l) (append_assoc (parts p) (parts q) after) ∙ sym (append_assoc before (parts p) (parts q ++ after)))
-    (omega (arith, length-append before (parts p))),
+        (h ∙ ap (λ l. before ++ l) (append_assoc (parts p) (parts q) after) ∙ sym (append_assoc before (parts p) (parts q ++ after)))
+        (omega (arith, length-append before (parts p))),
   )
 
   -- the user's rules
@@ -186,9 +186,9 @@ module _ (g : Grammar) where
         let b = behind_places g.rules low j part there in (
           helper_rule (users + j) part,
           subst (λ x. normal_at normal x ≡ Some (helper_rule (users + j) part)) (sym (add-one (length g.rules + j)))
-          (ap (λ l. slice_get l (length g.rules + j)) form.rules
-          ∙ get_behind front back_rules (length g.rules + j) j (let l = cut_long users 0 g.rules in omega arith)
-          ∙ helpers_get users (places g.rules) j part there),
+              (ap (λ l. slice_get l (length g.rules + j)) form.rules
+              ∙ get_behind front back_rules (length g.rules + j) j (let l = cut_long users 0 g.rules in omega arith)
+              ∙ helpers_get users (places g.rules) j part there),
           record {
             is = refl;
             below = body_at (users + j + 1) part b.before b.after b.low b.is (let l = b.long in omega arith);

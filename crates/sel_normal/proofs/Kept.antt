@@ -1,5 +1,5 @@
 -- The normal form of a lawful grammar that has few normal nonterminals keeps what each normal form keeps.
-use Rattle.std.proofs.Common.{◌≡◌, ℕ, zero, suc, ◌+◌, ◌<◌, ◌≤◌, ◌⊎◌, inl, inr, List, [], ◌∷◌, ◌++◌, length, refl, ap, subst, sym, ◌∙◌, Option, Some, None, slice_get, arith, length-append}
+use Rattle.std.proofs.Common.{◌≡◌, ℕ, zero, suc, ◌+◌, ◌-◌, ◌<◌, ◌≤◌, ◌⊎◌, inl, inr, List, [], ◌∷◌, ◌++◌, length, refl, ap, subst, sym, ◌∙◌, Option, Some, None, slice_get, arith, length-append}
 use Rattle.std.proofs.lemmas.Option.{slice_get_within}
 use Rattle.sel_base.specs.declared.range.Range.{Range}
 use Rattle.sel_grammar.specs.declared.grammar.Grammar.{Grammar}
@@ -82,3 +82,17 @@ module _ (g : Grammar) (normal : NormalForm) (form : IsFormOf g normal) where
           ⊎ ((j : ℕ) × (part : Pattern) × (slice_get (places g.rules) j ≡ Some part) × (r ≡ length g.rules + j + 1) × CutHelper g j part nr) → IsRuleWithin normal nr
       within r nr (inl (rule, at, c)) = user_within h r rule nr at c
       within r nr (inr (j, part, at, e, c)) = helper_within j part nr at c
+
+-- a rule's number is its place plus 1
+pub normal_at_place : (normal : NormalForm) (r : ℕ) (rule : NormalRule) → 1 ≤ r → slice_get normal.rules (r - 1) ≡ Some rule → normal_at normal r ≡ Some rule
+normal_at_place normal zero rule h at = absurd (omega arith)
+normal_at_place normal (suc k) rule h at = ap (slice_get normal.rules) (let e : k ≡ suc k - 1 = omega arith in e) ∙ at
+
+one_or_none : (o : Option Range) (rest : List Range) (n : ℕ) → length rest ≤ n → length (some_range o ++ rest) ≤ suc n
+one_or_none None rest n h = omega arith
+one_or_none (Some r) rest n h = omega arith
+
+-- no more tests than rules
+pub tests_few : (rules : List Rule) → length (tests rules) ≤ length rules
+tests_few [] = omega arith
+tests_few (rule ∷ rules) = one_or_none rule.range (tests rules) (length rules) (tests_few rules)

@@ -8,6 +8,7 @@ use crate::cut::{body, inner_count, push_inner_helpers};
 use crate::normal::NormalRule;
 use sel_base::{NoMemory, Range};
 use sel_grammar::Grammar;
+use sel_range::Classes;
 use std::alloc::Global;
 
 /// The number, where there is a range to test.
@@ -70,7 +71,7 @@ pub fn push_helper_rules(grammar: &Grammar, rules: &mut Vec<NormalRule>) -> Resu
 }
 
 /// The ranges of the rules that have one.
-pub fn tests_of(alloc: Global, grammar: &Grammar) -> Result<Vec<Range>, NoMemory>
+fn tests_of(alloc: Global, grammar: &Grammar) -> Result<Vec<Range>, NoMemory>
     ensures { IfOk result (λ ranges. ranges.items ≡ tests grammar.now.rules) }
 {
     let mut ranges = Vec::new(alloc);
@@ -82,4 +83,13 @@ pub fn tests_of(alloc: Global, grammar: &Grammar) -> Result<Vec<Range>, NoMemory
         rest = behind;
     }
     Ok(ranges)
+}
+
+/// The classes of the rules' ranges.
+pub fn classes_of(alloc: Global, grammar: &Grammar) -> Result<Classes, NoMemory>
+    requires lawful { IsLawful grammar.now }
+    ensures { IfOk result (λ classes. classes ≡ tests grammar.now.rules) }
+{
+    let ranges = tests_of(alloc, grammar)?;
+    Classes::of(alloc, &ranges)
 }

@@ -8,3 +8,4 @@ mod normal;
 mod reach;
 
 pub use normal::{Body, Normal, NormalRule};
+pub use sel_range::Classes;

@@ -8,10 +8,10 @@ ghost use Rattle.sel_normal.specs.NormalForms.{normal_at};
 ghost use Rattle.sel_normal.specs.Standing.{IsRuleWithin};
 
 use crate::check::{check_cycles, count_nonterminals};
-use crate::form::{cut_rules, push_helper_rules, tests_of};
+use crate::form::{classes_of, cut_rules, push_helper_rules};
 use crate::reach::free_leads;
-use sel_base::{List, Range};
 use sel_grammar::{Grammar, GrammarRefusal, RuleCost};
+use sel_range::Classes;
 use std::alloc::Global;
 use std::marker::Model;
 
@@ -45,7 +45,7 @@ pub struct Normal {
     nonterminals: u16,
     user_rules: u16,
     rules: Vec<NormalRule>,
-    tests: List<Range>,
+    classes: Classes,
 }
 
 impl Model for Normal {
@@ -57,7 +57,7 @@ impl Model for Normal {
       nonterminals = n.nonterminals;
       user_rules = n.user_rules;
       rules = n.rules.items;
-      tests = n.tests;
+      tests = n.classes;
     } };
 
     ghost use Rattle.sel_normal.specs.Standing.{IsStanding};
@@ -66,7 +66,7 @@ impl Model for Normal {
       nonterminals = n.nonterminals;
       user_rules = n.user_rules;
       rules = n.rules.items;
-      tests = n.tests;
+      tests = n.classes;
     }) };
 }
 
@@ -86,12 +86,12 @@ impl Normal {
         check_cycles(grammar, leads.as_slice())?;
         let mut rules = cut_rules(alloc, grammar)?;
         push_helper_rules(grammar, &mut rules)?;
-        let tests = tests_of(alloc, grammar)?;
+        let classes = classes_of(alloc, grammar)?;
         Ok(Normal {
             nonterminals,
             user_rules: grammar.rules.len() as u16,
             rules,
-            tests: List::from_vec(tests),
+            classes,
         })
     }
 
@@ -134,5 +134,12 @@ impl Normal {
         ensures within { IsRuleWithin self.now result }
     {
         self.rules[rule as usize - 1]
+    }
+
+    /// The classes of the ranges that the rules test.
+    pub fn classes(&self) -> &Classes
+        ensures { result.now ≡ self.now.tests }
+    {
+        &self.classes
     }
 }

@@ -34,7 +34,7 @@ returns-then-stands_on_cycle-clause-fault c =
     let at : slice_get g.rules k ≡ Some rule = ap (λ xs. slice_get xs k) (sym c.as_slice-rule-items.ensures) ∙ slice_get_read c.as_slice-rule-items.result.now _ k rule refl c.loop-rule-test.true c.rule-item.is in
     told_fault g _ _ c.fault_at.ensures
     (zero_cycle_at g k rule (record { kind = zero_cycle; line = rule.line; column = rule.column }) at c.requires.few c.loop-rule.invariant
-        (bits_lead g rule (Leads c.args.leads.now) c.requires.leads (c.stands_on_cycle.ensures.0 (c.if-stands_on_cycle.true))) refl)
+    (bits_lead g rule (Leads c.args.leads.now) c.requires.leads (c.stands_on_cycle.ensures.0 (c.if-stands_on_cycle.true))) refl)
 
 pub loop-rule-preserved : goal.loop-rule-preserved
 loop-rule-preserved c =

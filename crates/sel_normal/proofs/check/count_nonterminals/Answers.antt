@@ -18,7 +18,7 @@ pub inner_count-count-requires : goal.inner_count-count-requires
 inner_count-count-requires c =
     let k = c.loop-rule.rule-index in
     let at : slice_get c.args.grammar.now.rules k ≡ Some c.rule-item.result =
-        ap (λ xs. slice_get xs k) (sym c.as_slice-rule-items.ensures) ∙ slice_get_read c.as_slice-rule-items.result.now _ k c.rule-item.result refl c.loop-rule-test.true c.rule-item.is in
+    ap (λ xs. slice_get xs k) (sym c.as_slice-rule-items.ensures) ∙ slice_get_read c.as_slice-rule-items.result.now _ k c.rule-item.result refl c.loop-rule-test.true c.rule-item.is in
     (c.requires.rules k c.rule-item.result at).names
 
 pub returns-then-count-gt-MOST_NORMAL_NONTERMINALS-clause-fault : goal.returns-then-count-gt-MOST_NORMAL_NONTERMINALS-clause-fault
