@@ -6,5 +6,7 @@ pub mod Examples
 pub mod Faulty
 pub mod Helpers
 pub mod Kept
+pub mod OneFault
 pub mod Rests
+pub mod SomeFault
 pub mod Steps

@@ -4,6 +4,7 @@
 mod check;
 mod cut;
 mod form;
+pub mod laws;
 mod normal;
 mod reach;
 
