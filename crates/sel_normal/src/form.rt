@@ -42,7 +42,7 @@ pub fn cut_rules(alloc: Global, grammar: &Grammar) -> Result<Vec<NormalRule>, No
     let mut number = grammar.nonterminals.len() as u16;
     let mut test = 0;
     let mut rest = grammar.rules.as_slice();
-    'rules: while let Some((rule, behind)) = rest.split_first() {
+    'users: while let Some((rule, behind)) = rest.split_first() {
         rules.push(NormalRule {
             left: rule.left,
             cost: rule.cost,
@@ -63,7 +63,7 @@ pub fn push_helper_rules(grammar: &Grammar, rules: &mut Vec<NormalRule>) -> Resu
 {
     let mut number = grammar.nonterminals.len() as u16;
     let mut rest = grammar.rules.as_slice();
-    'rules: while let Some((rule, behind)) = rest.split_first() {
+    'helpers: while let Some((rule, behind)) = rest.split_first() {
         number = push_inner_helpers(number, &rule.pattern, rules)?;
         rest = behind;
     }
@@ -76,7 +76,7 @@ fn tests_of(alloc: Global, grammar: &Grammar) -> Result<Vec<Range>, NoMemory>
 {
     let mut ranges = Vec::new(alloc);
     let mut rest = grammar.rules.as_slice();
-    'rules: while let Some((rule, behind)) = rest.split_first() {
+    'tested: while let Some((rule, behind)) = rest.split_first() {
         if let Some(range) = rule.range {
             ranges.push(range)?;
         }

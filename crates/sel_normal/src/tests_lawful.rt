@@ -24,7 +24,10 @@ fn has_operator(grammar: &Grammar, operator: u8, kids: u8) -> bool
 fn names_left(grammar: &Grammar, pattern: &Pattern, names: u16) -> Option<u16>
     ensures { IfSome result (λ left. IsPatternOf grammar.now pattern.now × (names_of pattern.now + left ≡ names)) }
 {
-    let left = names.checked_sub(1)?;
+    if names == 0 {
+        return None;
+    }
+    let left = names - 1;
     match pattern {
         Pattern::Leaf(nonterminal) => {
             if (*nonterminal as usize) < grammar.nonterminals.len() {
@@ -96,12 +99,17 @@ fn are_arities(grammar: &Grammar) -> bool
     true
 }
 
+fn is_lawful_rule(grammar: &Grammar, rule: &Rule) -> bool
+    ensures { IsTrue result → (rule.now.left < length grammar.now.nonterminals) × IsRuleOf grammar.now rule.now }
+{
+    (rule.left as usize) < grammar.nonterminals.len() && is_rule_of(grammar, rule)
+}
+
 fn are_rules(grammar: &Grammar) -> bool
     ensures { IsTrue result → (k : ℕ) (rule : Rule) → slice_get grammar.now.rules k ≡ Some rule → (rule.left < length grammar.now.nonterminals) × IsRuleOf grammar.now rule }
 {
     for rule in grammar.rules.as_slice() {
-        let stands = (rule.left as usize) < grammar.nonterminals.len();
-        if !stands || !is_rule_of(grammar, rule) {
+        if !is_lawful_rule(grammar, rule) {
             return false;
         }
     }
@@ -111,10 +119,12 @@ fn are_rules(grammar: &Grammar) -> bool
 pub fn is_lawful(grammar: &Grammar) -> bool
     ensures { IsTrue result → IsLawful grammar.now }
 {
+    if grammar.operators.len() > MOST_OPERATORS || grammar.rules.len() > MOST_RULES {
+        return false;
+    }
     let nonterminals = grammar.nonterminals.len();
-    let start = (grammar.start as usize) < nonterminals;
-    let few = grammar.operators.len() <= MOST_OPERATORS
-        && nonterminals <= MOST_NONTERMINALS
-        && grammar.rules.len() <= MOST_RULES;
-    start && few && are_arities(grammar) && are_rules(grammar)
+    if nonterminals > MOST_NONTERMINALS || grammar.start as usize >= nonterminals {
+        return false;
+    }
+    are_arities(grammar) && are_rules(grammar)
 }
