@@ -22,7 +22,7 @@ use Rattle.sel_normal.specs.Cuts.{HeadAt, BodyAt, IsOperatorPart, CutUser, CutHe
 use Rattle.sel_normal.specs.Matches.{without_helpers}
 use Rattle.sel_normal.proofs.Steps.{some_same, some_none, within_rules, rule_left}
 use Rattle.sel_normal.proofs.Seeing.{leaves_one, leaves_two, only_one, only_two, seen_back, fits_both, both_fit}
-use Rattle.sel_normal.proofs.Ups.{kept_both, kept_user, left_out, range_seen}
+use Rattle.sel_normal.proofs.Ups.{kept_both, kept_user, left_out, range_seen, rule_lawful}
 
 DeriveAll-both : (g : Grammar) (ds es : Derivations) (ns ms : List ℕ) (ts us : List PlainTree) → DeriveAll g ds ns ts → DeriveAll g es ms us → DeriveAll g (both_kids ds es) (ns ++ ms) (ts ++ us)
 DeriveAll-both g no_more es [] ms [] us h k = k
@@ -126,7 +126,7 @@ module _ (g : Grammar) (normal : NormalForm) (h : IsLawful g) (form : IsFormOf g
       let whole : Pattern = Unary' op z (more_of-Pattern p end_of-Pattern) in
       subst (λ y. FallsApart whole y (costs s es) (lists es)) (sym o.3)
       (subst (λ y. FallsApart whole (Node1 o.0 o.1 o.2) (costs s y) (lists y)) (sym x.1)
-          (one_falls op whole p o.0 o.1 o.2 x.0 (λ b e. ap (λ c. if c then subtrees p o.2 else None) e) refl o.4 f))
+      (one_falls op whole p o.0 o.1 o.2 x.0 (λ b e. ap (λ c. if c then subtrees p o.2 else None) e) refl o.4 f))
   body_falls (Binary' op z (more_of-Pattern p end_of-Pattern) z' (more_of-Pattern q end_of-Pattern)) k test t es us at falls lies all =
       let m : ℕ = head (k + length (parts p)) q in
       let o = only_two op (head k p) m t us lies in
@@ -136,5 +136,92 @@ module _ (g : Grammar) (normal : NormalForm) (h : IsLawful g) (form : IsFormOf g
       let whole : Pattern = Binary' op z (more_of-Pattern p end_of-Pattern) z' (more_of-Pattern q end_of-Pattern) in
       subst (λ y. FallsApart whole y (costs s es) (lists es)) (sym o.4)
       (subst (λ y. FallsApart whole (Node2 o.0 o.1 o.2 o.3) (costs s y) (lists y)) (sym x.2)
-          (two_fall op whole p q o.0 o.1 o.2 o.3 x.0 x.1 (λ b e. ap (λ c. if c then joined (subtrees p o.2) (subtrees q o.3) else None) e) refl o.5
-              (fs.0 k p o.2 at.0 x.3) ((fs.1).0 (k + length (parts p)) q o.3 at.1 x.4)))
+      (two_fall op whole p q o.0 o.1 o.2 o.3 x.0 x.1 (λ b e. ap (λ c. if c then joined (subtrees p o.2) (subtrees q o.3) else None) e) refl o.5
+      (fs.0 k p o.2 at.0 x.3) ((fs.1).0 (k + length (parts p)) q o.3 at.1 x.4)))
+
+  user_falls : (q : ℕ) (es : Derivations) (rule : Rule) (number test : ℕ) (t : PlainTree) (us : List PlainTree) → AllFall es → rule_at g q ≡ Some rule → BodyAt g number rule.pattern → range_at normal.tests (test_number test rule.range) ≡ rule.range
+      → (nr : NormalRule) → nr ≡ record { left = rule.left; cost = rule.cost; body = body number (test_number test rule.range) rule.pattern } → rule_at s q ≡ Some (seen_rule normal.tests nr) → fits (seen_rule normal.tests nr) t ≡ Some us
+      → DeriveAll s es (leaves (seen_pattern nr.body)) us → FallsApart (Leaf rule.left) t (cost s (Deriv q es)) (list (Deriv q es))
+  user_falls q es rule number test t us falls at below range nr is there fit all =
+      let f = fits_both (seen_rule normal.tests nr) t us fit in
+      let tested : seen_range normal.tests nr.body ≡ rule.range =
+      ap (λ (x : NormalRule). seen_range normal.tests x.body) is ∙ range_seen g normal h form is_cut rule number test (rule_lawful g normal h form is_cut q rule at) range in
+      let lies : subtrees (seen_pattern (body number (test_number test rule.range) rule.pattern)) t ≡ Some us = ap (λ (x : NormalRule). subtrees (seen_pattern x.body) t) (sym is) ∙ f.1 in
+      let a = body_falls rule.pattern number (test_number test rule.range) t es us below falls lies (subst (λ (x : NormalRule). DeriveAll s es (leaves (seen_pattern x.body)) us) is all) in
+      let d : Derivation = Deriv q a.kids in
+      let few = within_rules g q rule at in
+      let users = form.user_rules in
+      record {
+        under = t ∷ [];
+        lies = refl;
+        kids = more d no_more;
+        derive = ((rule, at, refl, (a.under, both_fit rule t a.under (ap (λ o. in_range o (attribute_of t)) (sym tested) ∙ f.0) a.lies, a.derive)), tt);
+        costs_are = sym (sum_none (cost g d)) ∙ ap (λ o. rule_cost o ⊕ costs g a.kids) at ∙ ap (λ x. price rule ⊕ x) a.costs_are
+            ∙ ap (λ (x : NormalRule). paid x.cost ⊕ costs s es) (sym is) ∙ ap (λ o. rule_cost o ⊕ costs s es) (sym there);
+        lists_are = append-nil (list d) ∙ ap (λ l. q ∷ l) a.lists_are ∙ sym (kept_user normal q (lists es) (omega arith));
+      }
+
+  helper_falls : (q : ℕ) (es : Derivations) (j : ℕ) (part : Pattern) (t : PlainTree) (us : List PlainTree) → AllFall es → BodyAt g (length g.nonterminals + j + 1) part → q ≡ length g.rules + j + 1
+      → (nr : NormalRule) → nr ≡ helper_rule (length g.nonterminals + j) part → rule_at s q ≡ Some (seen_rule normal.tests nr) → fits (seen_rule normal.tests nr) t ≡ Some us
+      → DeriveAll s es (leaves (seen_pattern nr.body)) us → FallsApart part t (cost s (Deriv q es)) (list (Deriv q es))
+  helper_falls q es j part t us falls below number nr is there fit all =
+      let f = fits_both (seen_rule normal.tests nr) t us fit in
+      let k : ℕ = length g.nonterminals + j + 1 in
+      let lies : subtrees (seen_pattern (body k None part)) t ≡ Some us = ap (λ (x : NormalRule). subtrees (seen_pattern x.body) t) (sym is) ∙ f.1 in
+      let a = body_falls part k None t es us below falls lies (subst (λ (x : NormalRule). DeriveAll s es (leaves (seen_pattern x.body)) us) is all) in
+      let users = form.user_rules in
+      same_ends part t (costs s es) (cost s (Deriv q es)) (lists es) (list (Deriv q es))
+      (sum_before (costs s es) ∙ ap (λ (x : NormalRule). paid x.cost ⊕ costs s es) (sym is) ∙ ap (λ o. rule_cost o ⊕ costs s es) (sym there))
+      (sym (left_out normal q (lists es) (omega arith))) a
+
+  rule_falls : (q : ℕ) (es : Derivations) (k : ℕ) (p : Pattern) (t : PlainTree) (us : List PlainTree) (nr : NormalRule) → AllFall es → HeadAt g k p → rule_at s q ≡ Some (seen_rule normal.tests nr) → nr.left ≡ head k p
+      → fits (seen_rule normal.tests nr) t ≡ Some us → DeriveAll s es (leaves (seen_pattern nr.body)) us
+      → ((rule : Rule) × (rule_at g q ≡ Some rule) × CutUser g normal rule nr)
+      ⊎ ((j : ℕ) × (part : Pattern) × (slice_get (places g.rules) j ≡ Some part) × (q ≡ length g.rules + j + 1) × CutHelper g j part nr)
+      → ((n : ℕ) × (p ≡ Leaf n) × (n < length g.nonterminals)) ⊎ ((j : ℕ) × (head k p ≡ length g.nonterminals + j) × (slice_get (places g.rules) j ≡ Some p))
+      → FallsApart p t (cost s (Deriv q es)) (list (Deriv q es))
+  rule_falls q es k p t us nr falls at there left fit all (inl (rule, here, cut)) (inl (n, is, low)) =
+      let same : rule.left ≡ n = ap (λ (x : NormalRule). x.left) (sym cut.is) ∙ left ∙ ap (head k) is in
+      subst (λ y. FallsApart y t (cost s (Deriv q es)) (list (Deriv q es))) (ap Leaf same ∙ sym is)
+      (user_falls q es rule cut.number cut.test t us falls here cut.below cut.range nr cut.is there fit all)
+  rule_falls q es k p t us nr falls at there left fit all (inl (rule, here, cut)) (inr (j, is, place)) =
+      let low = rule_left g q rule h here in
+      let same : rule.left ≡ head k p = ap (λ (x : NormalRule). x.left) (sym cut.is) ∙ left in
+      absurd (omega arith)
+  rule_falls q es k p t us nr falls at there left fit all (inr (j, part, here, number, cut)) (inl (n, is, low)) =
+      let same : length g.nonterminals + j ≡ n = ap (λ (x : NormalRule). x.left) (sym cut.is) ∙ left ∙ ap (head k) is in
+      absurd (omega arith)
+  rule_falls q es k p t us nr falls at there left fit all (inr (j, part, here, number, cut)) (inr (i, is, place)) =
+      let same : length g.nonterminals + j ≡ head k p = ap (λ (x : NormalRule). x.left) (sym cut.is) ∙ left in
+      let one : j ≡ i = omega arith in
+      subst (λ y. FallsApart y t (cost s (Deriv q es)) (list (Deriv q es))) (some_same (sym here ∙ ap (slice_get (places g.rules)) one ∙ place))
+      (helper_falls q es j part t us falls cut.below number nr cut.is there fit all)
+
+  mutual
+    down : (e : Derivation) → Falls e
+    down (Deriv q es) k p t at (rule, there, left, (us, fit, all)) =
+        let b = seen_back normal q rule there in
+        rule_falls q es k p t us b.0 (all_down es) at (there ∙ ap (λ x. Some x) b.2) (ap (λ (x : Rule). x.left) (sym b.2) ∙ left) (ap (λ (x : Rule). fits x t) (sym b.2) ∙ fit)
+        (subst (λ (x : Rule). DeriveAll s es (leaves x.pattern) us) b.2 all) (is_cut.back q b.0 b.1) (place_of g k p at)
+
+    all_down : (es : Derivations) → AllFall es
+    all_down no_more = tt
+    all_down (more e es) = (down e, all_down es)
+
+  -- one derivation under the grammar, for one in the normal form from a user nonterminal
+  pub record HasDown (n : ℕ) (t : PlainTree) (e : Derivation) : Type 0 where
+    pub one : Derivation
+    pub derives : Derives g one n t
+    pub cost_is : cost g one ≡ cost s e
+    pub list_is : list one ≡ kept (list e)
+
+  pub user_down : (e : Derivation) (n : ℕ) (t : PlainTree) → n < length g.nonterminals → Derives s e n t → HasDown n t e
+  user_down e n t low d =
+      let a = down e 0 (Leaf n) t low d in
+      let x = kid_of g a.kids n t (subst (λ y. DeriveAll g a.kids (n ∷ []) y) (sym (some_same a.lies)) a.derive) in
+      record {
+        one = x.0;
+        derives = x.2;
+        cost_is = sum_none (cost g x.0) ∙ ap (costs g) (sym x.1) ∙ a.costs_are;
+        list_is = sym (append-nil (list x.0)) ∙ ap lists (sym x.1) ∙ a.lists_are;
+      }

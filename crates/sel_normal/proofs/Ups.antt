@@ -128,8 +128,7 @@ module _ (g : Grammar) (normal : NormalForm) (h : IsLawful g) (form : IsFormOf g
       let r : ℕ = length g.rules + j + 1 in
       let rule : Rule = seen_rule normal.tests (helper_rule (length g.nonterminals + j) p) in
       let at : rule_at s r ≡ Some rule = rule_seen normal r nr helper.1 ∙ ap (λ x. Some (seen_rule normal.tests x)) cut.is in
-      let users = form.user_rules in
-      (
+      let users = form.user_rules in (
         Deriv r b.kids,
         (rule, at, refl, (b.under, both_fit rule t b.under (no_range p) b.lies, b.derive)),
         ap (λ o. rule_cost o ⊕ costs s b.kids) at ∙ sym (sum_before (costs s b.kids)) ∙ b.costs_are,
