@@ -71,10 +71,9 @@ impl Model for Normal {
 }
 
 impl Normal {
-    /// The normal form of the grammar, with the helpers' rules behind the user's. A fault (after 'as
-    /// many normal nonterminals as there may be' the cycles are looked for) stands at the left name of
-    /// the rule that it is found at: kind 13 at the first rule whose helpers are too many, kind 14 at the
-    /// first rule that stands on a cycle of chain rules which cost nothing.
+    /// The normal form of the grammar. It is refused, at the left name of a rule, where there are more than
+    /// 512 normal nonterminals (kind 13, at the first rule whose helpers are too many), and else where chain
+    /// rules that cost nothing lead in a cycle (kind 14, at the first rule that stands on one).
     pub fn of(alloc: Global, grammar: &Grammar) -> Result<Normal, GrammarRefusal>
         requires lawful { IsLawful grammar.now }
         ensures form { IfOk result (λ normal. IsFormOf grammar.now normal) }
