@@ -23,6 +23,9 @@ fn fault_at(kind: u8, rule: &Rule) -> GrammarRefusal
     })
 }
 
+/// How many normal nonterminals there may be.
+const MOST: u16 = MOST_NORMAL_NONTERMINALS as u16;
+
 /// How many normal nonterminals the grammar has. A fault where they are too many.
 pub fn count_nonterminals(grammar: &Grammar) -> Result<u16, GrammarRefusal>
     requires { IsLawful grammar.now }
@@ -33,7 +36,7 @@ pub fn count_nonterminals(grammar: &Grammar) -> Result<u16, GrammarRefusal>
     let mut count = grammar.nonterminals.len() as u16;
     for rule in grammar.rules.as_slice() {
         count += inner_count(&rule.pattern);
-        if count as usize > MOST_NORMAL_NONTERMINALS {
+        if count > MOST {
             return Err(fault_at(TOO_MANY, rule));
         }
     }

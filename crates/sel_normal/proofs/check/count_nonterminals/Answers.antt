@@ -21,8 +21,8 @@ inner_count-count-requires c =
     ap (λ xs. slice_get xs k) (sym c.as_slice-rule-items.ensures) ∙ slice_get_read c.as_slice-rule-items.result.now _ k c.rule-item.result refl c.loop-rule-test.true c.rule-item.is in
     (c.requires.rules k c.rule-item.result at).names
 
-pub returns-then-count-gt-MOST_NORMAL_NONTERMINALS-clause-fault : goal.returns-then-count-gt-MOST_NORMAL_NONTERMINALS-clause-fault
-returns-then-count-gt-MOST_NORMAL_NONTERMINALS-clause-fault c =
+pub returns-then-count-gt-MOST-clause-fault : goal.returns-then-count-gt-MOST-clause-fault
+returns-then-count-gt-MOST-clause-fault c =
     let g = c.args.grammar.now in
     let k = c.loop-rule.rule-index in
     let rule = c.rule-item.result in
@@ -30,7 +30,7 @@ returns-then-count-gt-MOST_NORMAL_NONTERMINALS-clause-fault c =
     let more = nonterminals_more g k rule at in
     let count = c.loop-rule.invariant.count in
     let inner = c.inner_count-count.ensures.is in
-    let large = c.if-count-gt-MOST_NORMAL_NONTERMINALS.true in
+    let large = c.if-count-gt-MOST.true in
     told_fault g _ _ c.fault_at.ensures (too_many_at g k rule (record { kind = too_many; line = rule.line; column = rule.column }) at c.loop-rule.invariant.few (omega arith) refl)
 
 pub loop-rule-preserved : goal.loop-rule-preserved
@@ -42,7 +42,7 @@ loop-rule-preserved c =
     let more = nonterminals_more g k rule at in
     let count = c.loop-rule.invariant.count in
     let inner = c.inner_count-count.ensures.is in
-    let small = c.if-count-gt-MOST_NORMAL_NONTERMINALS.false in
+    let small = c.if-count-gt-MOST.false in
     let next : c.loop-rule.count + c.inner_count-count.result ≡ nonterminals_to g (suc k) = omega arith in
     record { count = next ∙ ap (nonterminals_to g) (sym (add-one k)); few = few_more g k c.loop-rule.invariant.few (omega arith) }
 
