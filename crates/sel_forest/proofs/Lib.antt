@@ -20,3 +20,5 @@ pub mod SomeAnswer
 pub mod SmallGrammars
 pub mod Walking
 pub mod Leading
+pub mod Rereading
+pub mod Reprinting
