@@ -13,6 +13,7 @@ pub mod Lawful
 pub mod Standing
 pub mod LineLoop
 pub mod ForestLoop
+pub mod Guessing
 pub mod OneForest
 pub mod Faultless
 pub mod OneFault

@@ -5,6 +5,7 @@ mod build;
 mod check;
 mod faults;
 mod forest;
+mod guess;
 pub mod laws;
 pub mod limits;
 mod line;
