@@ -166,7 +166,13 @@ pub fn read_forest(alloc: Global, grammar: &Grammar, bytes: &[u8]) -> Result<For
     'lines: loop {
         let cut = first_line(rest);
         let tree = read_line(
-            alloc, grammar, &guesses, trees.len(), number, cut.line, &mut stack,
+            alloc,
+            grammar,
+            &guesses,
+            trees.len(),
+            number,
+            cut.line,
+            &mut stack,
         )?;
         add(&mut trees, tree)?;
         let Some(behind) = cut.rest else {
