@@ -8,9 +8,13 @@ pub mod Form
 pub mod Machine
 pub mod TreeText
 pub mod LineFaults
+pub mod Guesses
 pub mod ForestText
 pub mod OpenNodes
 pub mod Surroundings
 pub mod Places
 pub mod Covers
+pub mod Goals
+pub mod Printed
+pub mod Printing
 pub mod Laws

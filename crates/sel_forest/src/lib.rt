@@ -2,18 +2,23 @@
 #![tactic(auto)]
 
 mod build;
+mod check;
 mod faults;
 mod forest;
+mod guess;
 pub mod laws;
 pub mod limits;
 mod line;
 mod number;
+mod print;
 mod read;
 mod refusal;
 mod tokens;
 mod walk;
 
+pub use check::check_cover;
 pub use forest::{Cover, Forest, Node, Tree};
+pub use print::print_forest;
 pub use read::read_forest;
 pub use refusal::{ForestFault, ForestRefusal};
 pub use sel_grammar::Attribute;
@@ -21,3 +26,5 @@ pub use walk::{Goal, fits_at, in_range, met, node_at, push_goals, rule_of};
 
 #[cfg(test)]
 mod tests;
+#[cfg(test)]
+mod tests_covers;
