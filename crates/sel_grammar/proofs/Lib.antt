@@ -10,13 +10,3 @@ pub mod UsedRules
 pub mod FreshChains
 pub mod Existence
 pub mod Words
-pub mod PlainNames
-pub mod PlainLines
-pub mod PlainTexts
-pub mod PlainDigits
-pub mod PlainSteps
-pub mod PlainNumbers
-pub mod PlainMeaning
-pub mod PlainGrammars
-pub mod PlainDecided
-pub mod PlainExamples
