@@ -1,0 +1,11 @@
+pub mod Blanks
+pub mod Digits
+pub mod FormSound
+pub mod FormComplete
+pub mod Steps
+pub mod OneAnswer
+pub mod Decided
+pub mod Templates
+pub mod Printed
+pub mod Built
+pub mod Examples

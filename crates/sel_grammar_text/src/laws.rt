@@ -1,0 +1,18 @@
+//! Laws of the definitions. The functions do nothing: their contracts say them.
+ghost use Rattle.sel_grammar_text.specs.Laws.{GrammarIsOne, GrammarFaultIsOne, NotGrammarAndFault, StateGoesOn, NoStateStops, EndIsText, TextIsEnd};
+
+/// A text spells at most one grammar, and has at most one fault. No text has both.
+pub fn grammar_or_fault()
+    ensures grammar_is_one { GrammarIsOne }
+    ensures fault_is_one { GrammarFaultIsOne }
+    ensures not_both { NotGrammarAndFault }
+{}
+
+/// There is a state behind some tokens exactly where a text of the form goes on with them, and it is
+/// the end exactly where they are a whole text.
+pub fn states_follow_the_form()
+    ensures goes_on { StateGoesOn }
+    ensures stops { NoStateStops }
+    ensures ended { EndIsText }
+    ensures whole { TextIsEnd }
+{}

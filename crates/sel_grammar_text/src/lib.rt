@@ -1,0 +1,10 @@
+//! The text of a grammar: its tokens, its form, its faults, and what it says.
+#![tactic(auto)]
+
+mod fault;
+mod form;
+pub mod laws;
+mod number;
+mod pattern;
+mod template;
+mod tokens;
