@@ -1,0 +1,7 @@
+//! The normal form of a grammar: each rule has one operator over nonterminals, or is a chain rule.
+#![tactic(auto)]
+
+mod cut;
+mod normal;
+
+pub use normal::{Body, Normal, NormalRule};
