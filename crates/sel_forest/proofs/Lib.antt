@@ -18,3 +18,4 @@ pub mod Faultless
 pub mod OneFault
 pub mod SomeAnswer
 pub mod SmallGrammars
+pub mod Walking

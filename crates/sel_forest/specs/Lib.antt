@@ -13,4 +13,5 @@ pub mod OpenNodes
 pub mod Surroundings
 pub mod Places
 pub mod Covers
+pub mod Goals
 pub mod Laws

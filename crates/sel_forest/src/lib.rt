@@ -2,6 +2,7 @@
 #![tactic(auto)]
 
 mod build;
+mod check;
 mod faults;
 mod forest;
 pub mod laws;
@@ -13,6 +14,7 @@ mod refusal;
 mod tokens;
 mod walk;
 
+pub use check::check_cover;
 pub use forest::{Cover, Forest, Node, Tree};
 pub use read::read_forest;
 pub use refusal::{ForestFault, ForestRefusal};
