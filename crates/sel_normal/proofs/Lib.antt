@@ -1,3 +1,4 @@
 pub mod Cases
 pub mod Examples
 pub mod Helpers
+pub mod Rests

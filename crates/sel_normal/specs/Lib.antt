@@ -4,5 +4,6 @@ pub mod Laws
 pub mod Matches
 pub mod NormalFaults
 pub mod NormalForms
+pub mod Reach
 pub mod Seen
 pub mod Standing

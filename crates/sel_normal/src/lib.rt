@@ -2,6 +2,8 @@
 #![tactic(auto)]
 
 mod cut;
+mod form;
 mod normal;
+mod reach;
 
 pub use normal::{Body, Normal, NormalRule};
