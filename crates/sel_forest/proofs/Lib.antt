@@ -19,3 +19,4 @@ pub mod OneFault
 pub mod SomeAnswer
 pub mod SmallGrammars
 pub mod Walking
+pub mod Leading

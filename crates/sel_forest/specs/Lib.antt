@@ -14,4 +14,6 @@ pub mod Surroundings
 pub mod Places
 pub mod Covers
 pub mod Goals
+pub mod Printed
+pub mod Printing
 pub mod Laws

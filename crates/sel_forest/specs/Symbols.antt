@@ -19,3 +19,8 @@ is_symbol_byte b = is_symbol_start b || is_ascii_digit b
 abbrev pub IsSymbol : List ℕ → Type 0
 IsSymbol [] = ⊥
 IsSymbol (b ∷ bytes) = (is_symbol_start b ≡ true) × (list_all is_symbol_byte bytes ≡ true)
+
+-- a letter or _, and then letters, digits and _
+abbrev pub IsName : List ℕ → Type 0
+IsName [] = ⊥
+IsName (b ∷ bytes) = (is_letter b ≡ true) × (list_all is_name_byte bytes ≡ true)

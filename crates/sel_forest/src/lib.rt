@@ -9,6 +9,7 @@ pub mod laws;
 pub mod limits;
 mod line;
 mod number;
+mod print;
 mod read;
 mod refusal;
 mod tokens;
@@ -16,6 +17,7 @@ mod walk;
 
 pub use check::check_cover;
 pub use forest::{Cover, Forest, Node, Tree};
+pub use print::print_forest;
 pub use read::read_forest;
 pub use refusal::{ForestFault, ForestRefusal};
 pub use sel_grammar::Attribute;
