@@ -4,6 +4,7 @@ use Rattle.std.proofs.Common.{◌≡◌, ℕ, suc, ◌+◌, List, [], ◌∷◌,
 use Rattle.std.specs.Prelude.{take_while, option_map}
 use Rattle.std.specs.List.{prefix_len, flat_map}
 use Rattle.std.specs.Char.{is_ascii_digit}
+use Rattle.std.proofs.lemmas.Fmt.{decimal_digit}
 use Rattle.sel_grammar.specs.Names.{is_letter, is_name_byte}
 use Rattle.sel_grammar.specs.declared.grammar.Part.{Part}
 use Rattle.sel_grammar.specs.declared.grammar.Part.TheVariants.{Text, Kid, Attribute, Temp}
@@ -95,7 +96,7 @@ pub template_passes : (parts : List Part) → AreParts parts → Passes (printed
 template_passes [] h = none_passes
 template_passes (Text bytes ∷ parts) h = passes-append (flat_map printed_byte bytes) (printed_template parts) (text_passes bytes) (template_passes parts h.1)
 template_passes (Kid k ∷ parts) h =
-    passes-append (37 ∷ (48 + k) ∷ []) (printed_template parts) (sign_passes (48 + k) (unequal _ _ (λ e. omega arith)) (unequal _ _ (λ e. omega arith)) (unequal _ _ (λ e. omega arith))) (template_passes parts h.1)
+    subst (λ ds. Passes ((37 ∷ ds) ++ printed_template parts)) (sym (decimal_digit k (omega arith))) (passes-append (37 ∷ (48 + k) ∷ []) (printed_template parts) (sign_passes (48 + k) (unequal _ _ (λ e. omega arith)) (unequal _ _ (λ e. omega arith)) (unequal _ _ (λ e. omega arith))) (template_passes parts h.1))
 template_passes (Attribute ∷ parts) h = passes-append (37 ∷ 97 ∷ []) (printed_template parts) (sign_passes 97 refl refl refl) (template_passes parts h.1)
 template_passes (Temp ∷ parts) h = passes-append (37 ∷ 99 ∷ []) (printed_template parts) (sign_passes 99 refl refl refl) (template_passes parts h.1)
 

@@ -1,6 +1,7 @@
 -- A printed template is read again.
 use Rattle.std.proofs.Common.{◌≡◌, ℕ, ◌+◌, ◌-◌, ◌≤◌, List, [], ◌∷◌, ◌++◌, Bool, true, false, refl, ap, sym, ◌∙◌, subst, arith, cond, eqb, append_assoc, append-nil, inl, inr}
 use Rattle.std.specs.List.{flat_map}
+use Rattle.std.proofs.lemmas.Fmt.{decimal_digit}
 use Rattle.std.proofs.lemmas.Bool.{eqb-true}
 use Rattle.std.proofs.lemmas.Bool.Decides.{eqb_tells}
 use Rattle.sel_grammar.specs.declared.grammar.Part.{Part}
@@ -68,7 +69,7 @@ pub read_again : (parts : List Part) → AreParts parts → Says (printed_templa
 read_again [] h at = refl
 read_again (Text [] ∷ parts) h at = absurd h.0
 read_again (Text (b ∷ bytes) ∷ parts) h at = text_says b bytes (printed_template parts) parts h.0 (read_again parts h.1) at
-read_again (Kid k ∷ parts) h at = digit_says k (printed_template parts) parts h.0 (read_again parts h.1) at
+read_again (Kid k ∷ parts) h at = subst (λ ds. Says (37 ∷ (ds ++ printed_template parts)) (Kid k ∷ parts)) (sym (decimal_digit k (omega arith))) (digit_says k (printed_template parts) parts h.0 (read_again parts h.1)) at
 read_again (Attribute ∷ parts) h at = ap (λ ps. Attribute ∷ ps) (read_again parts h.1 (at + 2))
 read_again (Temp ∷ parts) h at = ap (λ ps. Temp ∷ ps) (read_again parts h.1 (at + 2))
 

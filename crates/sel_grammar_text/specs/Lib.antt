@@ -18,5 +18,6 @@ pub mod ItemFaults
 pub mod Patterns
 pub mod Places
 pub mod Meaning
+pub mod PrintedGrammar
 pub mod GrammarText
 pub mod Laws

@@ -1,5 +1,5 @@
 -- How templates are printed, and which lists of parts a template has.
-use Rattle.std.specs.Prelude.{◌≡◌, ℕ, ◌+◌, ◌==◌, ◌≤◌, false, List, [], ◌∷◌, if◌then◌else◌}
+use Rattle.std.specs.Prelude.{◌≡◌, ℕ, ◌==◌, ◌≤◌, false, List, [], ◌∷◌, if◌then◌else◌, decimal}
 use Rattle.std.specs.List.{flat_map}
 use Rattle.sel_grammar.specs.declared.grammar.Part.{Part}
 use Rattle.sel_grammar.specs.declared.grammar.Part.TheVariants.{Text, Kid, Attribute, Temp}
@@ -13,7 +13,7 @@ printed_byte b =
 
 abbrev pub printed_part : Part → List ℕ
 printed_part (Text bytes) = flat_map printed_byte bytes
-printed_part (Kid k) = 37 ∷ (48 + k) ∷ []
+printed_part (Kid k) = 37 ∷ decimal k
 printed_part Attribute = 37 ∷ 97 ∷ []
 printed_part Temp = 37 ∷ 99 ∷ []
 
