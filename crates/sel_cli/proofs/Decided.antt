@@ -7,7 +7,7 @@ use Rattle.sel_grammar.specs.declared.grammar.Grammar.{Grammar}
 use Rattle.sel_grammar.specs.declared.refusal.GrammarFault.{GrammarFault}
 use Rattle.sel_grammar.specs.Derivations.{Derives}
 use Rattle.sel_grammar_text.specs.GrammarText.{SpellsGrammar, IsGrammarFault}
-use Rattle.sel_grammar_text.proofs.OneAnswer.{grammar_one, fault_one as grammar_fault_one, not_both as not_grammar_and_fault}
+use Rattle.sel_grammar_text.proofs.OneAnswer.{one_grammar as grammar_one, one_grammar_fault as grammar_fault_one, not_both}
 use Rattle.sel_normal.specs.NormalFaults.{IsAccepted, IsNormalFault}
 use Rattle.sel_normal.proofs.OneFault.{fault_one as normal_fault_one, not_accepted_and_fault}
 use Rattle.sel_forest.specs.declared.forest.Cover.{Cover}
@@ -90,14 +90,14 @@ same_forest_side g text (good_forest forest) (good_forest other) p q = ap (λ f.
 -- a text is refused for one fault
 refused_one : (text : List ℕ) (e f : GrammarFault) → IsRefusedGrammar text e → IsRefusedGrammar text f → e ≡ f
 refused_one text e f (inl p) (inl q) = grammar_fault_one text e f p q
-refused_one text e f (inl p) (inr (g, spelled, fault)) = absurd (not_grammar_and_fault text g e spelled p)
-refused_one text e f (inr (g, spelled, fault)) (inl q) = absurd (not_grammar_and_fault text g f spelled q)
+refused_one text e f (inl p) (inr (g, spelled, fault)) = absurd (not_both text g e spelled p)
+refused_one text e f (inr (g, spelled, fault)) (inl q) = absurd (not_both text g f spelled q)
 refused_one text e f (inr (g, spelled, fault)) (inr (h, spelled', fault')) =
     normal_fault_one g e f fault (subst (λ x. IsNormalFault x f) (grammar_one text h g spelled' spelled) fault')
 
 -- an accepted text is refused for none
 not_refused : {A : Type 0} (text : List ℕ) (g : Grammar) (f : GrammarFault) → Spelled text g → IsRefusedGrammar text f → A
-not_refused text g f s (inl p) = absurd (not_grammar_and_fault text g f s.spelled p)
+not_refused text g f s (inl p) = absurd (not_both text g f s.spelled p)
 not_refused text g f s (inr (h, spelled, fault)) =
     absurd (not_accepted_and_fault g f s.normal (subst (λ x. IsNormalFault x f) (grammar_one text h g spelled s.spelled) fault))
 
@@ -175,13 +175,13 @@ same_covered g (t ∷ trees) (x ∷ xs) (y ∷ ys) p q =
 
 -- a job's output tells whether every tree is covered
 same_end : (job : Job) (g : Grammar) (forest : Option Forest) (a b : Bool) (bytes other : List ℕ) → IsOutput job g forest a bytes → IsOutput job g forest b other → a ≡ b
-same_end PrintGrammar g None a b bytes other p q = p.all_covered ∙ sym q.all_covered
+same_end PrintGrammar g None a b bytes other p q = p.1 ∙ sym q.1
 same_end PrintGrammar g (Some forest) a b bytes other p q = absurd p
 same_end (OverForest mode.Cover name) g None a b bytes other p q = absurd p
 same_end (OverForest mode.Cover name) g (Some forest) a b bytes other p q =
     sym p.all_covered ∙ same_covered g forest.trees p.answers q.answers p.answer_trees q.answer_trees ∙ q.all_covered
 same_end (OverForest mode.Print name) g None a b bytes other p q = absurd p
-same_end (OverForest mode.Print name) g (Some forest) a b bytes other p q = p.all_covered ∙ sym q.all_covered
+same_end (OverForest mode.Print name) g (Some forest) a b bytes other p q = p.1 ∙ sym q.1
 
 same_output : (job : Job) (g : Grammar) (forest : Option Forest) (bytes other : List ℕ) (status another : Status) → ShowsOutput job g forest bytes status → ShowsOutput job g forest other another → status ≡ another
 same_output job g forest bytes other status another (covered, output, is) (covered', output', is') =

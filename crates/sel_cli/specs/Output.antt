@@ -11,6 +11,8 @@ use Rattle.sel_forest.specs.declared.forest.Forest.{Forest}
 use Rattle.sel_forest.specs.declared.forest.Tree.{Tree}
 use Rattle.sel_forest.specs.Postorder.{IsPostorderOf}
 use Rattle.sel_forest.specs.Covers.{IsAnswer}
+use Rattle.sel_forest.specs.Printed.{IsPrinted}
+use Rattle.sel_grammar_text.specs.PrintedGrammar.{printed}
 use Rattle.sel_cli.specs.Words.{Job, PrintGrammar, OverForest}
 use Rattle.sel_cli.specs.declared.words.Mode.TheVariants as mode
 
@@ -67,14 +69,9 @@ pub record AreAnswered (g : Grammar) (trees : List Tree) (covered : Bool) (bytes
   pub written : bytes ≡ answers_text (has_second_costs g) 1 answers
   pub all_covered : list_all is_some answers ≡ covered
 
--- a printed text: nothing is left uncovered
-pub record IsPrinted (whole : List ℕ) (covered : Bool) (bytes : List ℕ) : Type 0 where
-  pub written : bytes ≡ whole
-  pub all_covered : covered ≡ true
-
 -- The defined output of a job over a grammar and, for most, a forest, and whether every tree is covered.
 abbrev pub IsOutput : Job → Grammar → Option Forest → Bool → List ℕ → Type 0
-IsOutput PrintGrammar g None covered bytes = IsPrinted (printed g) covered bytes
+IsOutput PrintGrammar g None covered bytes = (bytes ≡ printed g) × (covered ≡ true)
 IsOutput (OverForest mode.Cover name) g (Some forest) covered bytes = AreAnswered g forest.trees covered bytes
-IsOutput (OverForest mode.Print name) g (Some forest) covered bytes = IsPrinted (printed_forest g forest) covered bytes
+IsOutput (OverForest mode.Print name) g (Some forest) covered bytes = IsPrinted g forest bytes × (covered ≡ true)
 IsOutput _ _ _ _ _ = ⊥
