@@ -9,7 +9,7 @@ use Rattle.sel_grammar.specs.Derivations.{Derives}
 use Rattle.sel_grammar_text.specs.GrammarText.{SpellsGrammar, IsGrammarFault}
 use Rattle.sel_grammar_text.proofs.OneAnswer.{one_grammar as grammar_one, one_grammar_fault as grammar_fault_one, not_both}
 use Rattle.sel_normal.specs.NormalFaults.{IsAccepted, IsNormalFault}
-use Rattle.sel_normal.proofs.OneFault.{fault_one as normal_fault_one, not_accepted_and_fault}
+use Rattle.sel_normal.proofs.OneFault.{normal_fault_is_one as normal_fault_one, not_accepted_and_fault}
 use Rattle.sel_forest.specs.declared.forest.Cover.{Cover}
 use Rattle.sel_forest.specs.declared.forest.Tree.{Tree}
 use Rattle.sel_forest.specs.declared.forest.Forest.{Forest}
@@ -224,7 +224,7 @@ bad_forest_found Is request name fault bytes r =
     (Some (beside (r.task).job r.grammar (bad_forest fault)), forest_found Is request r.task r.grammar name r.text (bad_forest fault) r.has (r.within, r.refused), refl)
 
 -- what is found of a task whose texts are accepted
-side_of : Task → Grammar → Option Forest → Side
+abbrev side_of : Task → Grammar → Option Forest → Side
 side_of task g None = alone task.job g
 side_of task g (Some forest) = beside task.job g (good_forest forest)
 

@@ -4,12 +4,16 @@ use Rattle.std.proofs.lemmas.List.{length-replicate}
 use Rattle.sel_base.specs.Causes.{Rose}
 use Rattle.sel_base.specs.Reads.{LastRead}
 use Rattle.sel_grammar.specs.declared.grammar.Grammar.{Grammar}
+use Rattle.sel_grammar.specs.declared.refusal.GrammarRefusal.{GrammarRefusal}
+use Rattle.sel_grammar.specs.declared.refusal.GrammarRefusal.TheVariants as refusal
+use Rattle.sel_grammar_text.specs.GrammarText.{SpellsGrammar}
+use Rattle.sel_normal.specs.NormalFaults.{NormalRefusedFor}
 use Rattle.sel_forest.specs.declared.forest.Forest.{Forest}
-use Rattle.sel_cli.specs.Words.{Job, Task, forest_name}
+use Rattle.sel_cli.specs.Words.{Job, Task, forest_name, last_name}
 use Rattle.sel_cli.specs.Output.{IsOutput}
 use Rattle.sel_cli.specs.Texts.{Request, MayBe, AcceptsGrammar, Accepts, grammar_limit, forest_limit}
-use Rattle.sel_cli.specs.Ends.{Reads, StopsFor, EndsFor, WritesJobFor, IsFrontOf}
-use Rattle.sel_cli.specs.Parts.{FetchesFor, PutsFor}
+use Rattle.sel_cli.specs.Ends.{Reads, StopsFor, EndsFor, WritesJobFor, IsFrontOf, WasRead, ReadsFor}
+use Rattle.sel_cli.specs.Parts.{FetchesFor, JudgedFor, PutsFor}
 use Rattle.sel_cli.specs.declared.status.Status.{Status}
 use Rattle.sel_cli.specs.declared.status.Status.TheVariants.{Done, Usage, ReadFault, TooBig, BadGrammar, BadForest, WriteFault, NoMemory, Uncovered}
 
@@ -99,16 +103,46 @@ puts_job job grammar forest covered whole before after bytes TooBig o p = absurd
 puts_job job grammar forest covered whole before after bytes (BadGrammar fault) o p = absurd p
 puts_job job grammar forest covered whole before after bytes (BadForest fault) o p = absurd p
 
--- an accepted task was done
-pub job_ends : (request : Request) (reads : Reads) (before after : ℕ) (name bytes : List ℕ) (task : Task) (grammar : Grammar) (forest : Option Forest) (status : Status)
-    → Accepts MayBe request task grammar forest → WritesJobFor task.job grammar forest before after bytes status → EndsFor request reads before after name bytes status
-job_ends request reads before after name bytes task grammar forest WriteFault a f = inr (f.0, (task, grammar, forest, a, f.1))
-job_ends request reads before after name bytes task grammar forest NoMemory a (inl f) = inl (f, tt)
-job_ends request reads before after name bytes task grammar forest NoMemory a (inr f) = inr (task, grammar, forest, a, f)
-job_ends request reads before after name bytes task grammar forest Done a f = inr (task, grammar, forest, a, f)
-job_ends request reads before after name bytes task grammar forest Uncovered a f = inr (task, grammar, forest, a, f)
-job_ends request reads before after name bytes task grammar forest Usage a f = absurd f
-job_ends request reads before after name bytes task grammar forest ReadFault a f = absurd f
-job_ends request reads before after name bytes task grammar forest TooBig a f = absurd f
-job_ends request reads before after name bytes task grammar forest (BadGrammar fault) a f = absurd f
-job_ends request reads before after name bytes task grammar forest (BadForest fault) a f = absurd f
+-- an accepted task was done, whose job is this
+pub job_ends : (request : Request) (reads : Reads) (before after : ℕ) (name bytes : List ℕ) (task : Task) (job : Job) (grammar : Grammar) (forest : Option Forest) (status : Status)
+    → task.job ≡ job → Accepts MayBe request task grammar forest → WritesJobFor job grammar forest before after bytes status → EndsFor request reads before after name bytes status
+job_ends request reads before after name bytes task job grammar forest status e a f = go status (subst (λ j. WritesJobFor j grammar forest before after bytes status) (sym e) f)
+  where
+    go : (status : Status) → WritesJobFor task.job grammar forest before after bytes status → EndsFor request reads before after name bytes status
+    go WriteFault f = inr (f.0, (task, grammar, forest, a, f.1))
+    go NoMemory (inl f) = inl (f, tt)
+    go NoMemory (inr f) = inr (task, grammar, forest, a, f)
+    go Done f = inr (task, grammar, forest, a, f)
+    go Uncovered f = inr (task, grammar, forest, a, f)
+    go Usage f = absurd f
+    go ReadFault f = absurd f
+    go TooBig f = absurd f
+    go (BadGrammar fault) f = absurd f
+    go (BadForest fault) f = absurd f
+
+-- what ended so by the reads of a part of the call ended so by those of all of it
+pub ends_later : (request : Request) (reads later : Reads) (before after : ℕ) (name bytes : List ℕ) (status : Status)
+    → later.before ≤ reads.before → later.after ≡ reads.after → later.last ≡ reads.last → EndsFor request reads before after name bytes status → EndsFor request later before after name bytes status
+ends_later request reads later before after name bytes status le a l (inl (none, stops)) = inl (none, stop_later request reads later name status le a l stops)
+ends_later request reads later before after name bytes status le a l (inr w) = inr w
+
+-- a grammar whose normal form is refused is refused
+pub normal_judged : (text : List ℕ) (grammar : Grammar) (why : GrammarRefusal) → SpellsGrammar text grammar → NormalRefusedFor grammar why → JudgedFor text why
+normal_judged text grammar (refusal.Fault fault) s f = inr (grammar, s, f)
+normal_judged text grammar refusal.NoMemory s f = tt
+
+-- what was read last where a task was done
+pub done_reads : (task : Task) (reads : Reads) (name : List ℕ) (job : Job) (grammar : Grammar) (forest : Option Forest) (before after : ℕ) (bytes : List ℕ) (status : Status)
+    → last_name task ≡ name → WasRead reads name → WritesJobFor job grammar forest before after bytes status → ReadsFor (Some task) reads status
+done_reads task reads name job grammar forest before after bytes status e r f = go status (subst (WasRead reads) (sym e) r) f
+  where
+    go : (status : Status) → WasRead reads (last_name task) → WritesJobFor job grammar forest before after bytes status → ReadsFor (Some task) reads status
+    go WriteFault r f = r
+    go NoMemory r f = tt
+    go Done r f = r
+    go Uncovered r f = r
+    go Usage r f = absurd f
+    go ReadFault r f = absurd f
+    go TooBig r f = absurd f
+    go (BadGrammar fault) r f = absurd f
+    go (BadForest fault) r f = absurd f

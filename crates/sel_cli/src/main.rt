@@ -4,6 +4,7 @@
 mod answers;
 mod command_line;
 mod lines;
+mod output;
 mod report;
 mod run;
 mod settings;
@@ -44,6 +45,7 @@ fn main(rt: HostRuntime) -> ExitCode {
     );
     ExitCode::from(status.code())
 }
+
 
 #[cfg(test)]
 mod tests;
