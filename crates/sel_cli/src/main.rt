@@ -1,4 +1,5 @@
-//! Reads a grammar and a forest by name, and writes the cheapest cover of each tree.
+//! Reads a grammar and a forest by name, and writes the cheapest cover of each tree, or the grammar or
+//! the forest in print.
 #![tactic(auto)]
 
 mod answers;
@@ -46,8 +47,9 @@ fn main(rt: HostRuntime) -> ExitCode {
     ExitCode::from(status.code())
 }
 
-
 #[cfg(test)]
 mod tests;
+#[cfg(test)]
+mod tests_grammars;
 #[cfg(test)]
 mod tests_words;
