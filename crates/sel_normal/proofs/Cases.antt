@@ -4,7 +4,8 @@ use Rattle.sqlite_items.specs.declared.boxed.Boxed.{Boxed}
 use Rattle.sel_grammar.specs.declared.grammar.Pattern.{Pattern, Leaf, Nullary, Unary, Binary, Unary', Binary', end_of-Pattern, more_of-Pattern}
 use Rattle.sel_grammar.specs.declared.grammar.Pattern.TheBlock.{shape-the_row-Pattern-0, hidden-the_row-Pattern-0}
 use denote.Hole.Carrier.{hidden}
-use Rattle.sel_grammar.specs.Lawful.{names_of}
+use Rattle.sel_grammar.specs.declared.grammar.Grammar.{Grammar}
+use Rattle.sel_grammar.specs.Lawful.{names_of, HasOperator, IsPatternOf}
 use Rattle.sel_normal.specs.declared.normal.Body.{Body}
 use Rattle.sel_normal.specs.declared.normal.Body.TheVariants.{Chain, Operator}
 use Rattle.sel_normal.specs.Forms.{parts, inner_parts, head, body}
@@ -15,6 +16,7 @@ pub record IsOver (pattern : Pattern) (op : ℕ) (p : Pattern) : Type 0 where
   pub parts_is : parts pattern ≡ pattern ∷ parts p
   pub inner_is : inner_parts pattern ≡ parts p
   pub body_is : (k : ℕ) (test : Option ℕ) → body k test pattern ≡ Operator op (Some (head k p)) None test
+  pub lawful_is : (g : Grammar) → HasOperator g op 1 → IsPatternOf g p → IsPatternOf g pattern
 
 -- the pattern is an operator over p and q
 pub record AreOver (pattern : Pattern) (op : ℕ) (p q : Pattern) : Type 0 where
@@ -22,14 +24,15 @@ pub record AreOver (pattern : Pattern) (op : ℕ) (p q : Pattern) : Type 0 where
   pub parts_is : parts pattern ≡ pattern ∷ (parts p ++ parts q)
   pub inner_is : inner_parts pattern ≡ parts p ++ parts q
   pub body_is : (k : ℕ) (test : Option ℕ) → body k test pattern ≡ Operator op (Some (head k p)) (Some (head (k + length (parts p)) q)) test
+  pub lawful_is : (g : Grammar) → HasOperator g op 2 → IsPatternOf g p → IsPatternOf g q → IsPatternOf g pattern
 
 over_unary : (op : ℕ) (p : Boxed Pattern) → IsOver (Unary op p) op p
 unfolding shape-the_row-Pattern-0 hidden-the_row-Pattern-0 hidden
-over_unary op p = record { names_is = refl; parts_is = refl; inner_is = refl; body_is = λ k test. refl }
+over_unary op p = record { names_is = refl; parts_is = refl; inner_is = refl; body_is = λ k test. refl; lawful_is = λ g h k. (h, k) }
 
 over_binary : (op : ℕ) (p q : Boxed Pattern) → AreOver (Binary op p q) op p q
 unfolding shape-the_row-Pattern-0 hidden-the_row-Pattern-0 hidden
-over_binary op p q = record { names_is = refl; parts_is = refl; inner_is = refl; body_is = λ k test. refl }
+over_binary op p q = record { names_is = refl; parts_is = refl; inner_is = refl; body_is = λ k test. refl; lawful_is = λ g h k l. (h, (k, l)) }
 
 pub is_over : (pattern : Pattern) (op : ℕ) (b : Boxed Pattern) (p : Pattern) → pattern ≡ Unary op b → p ≡ b → IsOver pattern op p
 is_over pattern op b p is e = subst (λ x. IsOver x op p) (sym is) (subst (λ (y : Pattern). IsOver (Unary op b) op y) (sym e) (over_unary op b))

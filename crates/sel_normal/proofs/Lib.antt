@@ -1,4 +1,17 @@
+pub mod Bits
 pub mod Cases
+pub mod Closing
+pub mod Cutting
+pub mod Downs
 pub mod Examples
+pub mod Faulty
 pub mod Helpers
+pub mod Kept
+pub mod Matching
+pub mod OneFault
 pub mod Rests
+pub mod Seeing
+pub mod SomeFault
+pub mod Steps
+pub mod Tells
+pub mod Ups

@@ -4,7 +4,11 @@ use Rattle.sel_base.specs.declared.range.Range.{Range}
 use Rattle.sel_grammar.specs.declared.grammar.Grammar.{Grammar}
 use Rattle.sel_grammar.specs.declared.grammar.Rule.{Rule}
 use Rattle.sel_grammar.specs.declared.grammar.Pattern.{Pattern}
+use Rattle.sel_grammar.specs.declared.refusal.GrammarFault.{GrammarFault}
+use Rattle.sel_grammar.specs.declared.refusal.GrammarRefusal.{GrammarRefusal}
+use Rattle.sel_grammar.specs.declared.refusal.GrammarRefusal.TheVariants.{Fault}
 use Rattle.sel_grammar.specs.Lawful.{IsRuleOf}
+use Rattle.sel_normal.specs.NormalFaults.{IsNormalFault, NormalRefusedFor}
 use Rattle.sel_normal.specs.declared.normal.NormalRule.{NormalRule}
 use Rattle.sel_normal.specs.Forms.{inner_parts, places, body, helper_rules, some_range, tests, test_number, cut_rules}
 use Rattle.sel_normal.proofs.Helpers.{pushed_both, helper_rules-append, helpers_at}
@@ -41,3 +45,7 @@ rule_helpers_more k k' rest rule behind old new all is e made h =
 pub range_more : (rest : List Rule) (rule : Rule) (behind : List Rule) (old new all : List Range) → rest ≡ rule ∷ behind → new ≡ old ++ some_range rule.range → old ++ tests rest ≡ all → new ++ tests behind ≡ all
 range_more rest rule behind old new all is made h =
     ap (λ l. l ++ tests behind) made ∙ append_assoc old (some_range rule.range) (tests behind) ∙ ap (λ l. old ++ tests l) (sym is) ∙ h
+
+-- a refusal that tells the fault
+pub told_fault : (g : Grammar) (refusal : GrammarRefusal) (f : GrammarFault) → refusal ≡ Fault f → IsNormalFault g f → NormalRefusedFor g refusal
+told_fault g refusal f is h = subst (NormalRefusedFor g) (sym is) h

@@ -99,11 +99,7 @@ fn helper_rule(number: u16, part: &Pattern) -> NormalRule
 
 /// Puts the rules of the helpers for the part's operators behind the others, the first helper having
 /// the number. The number behind theirs.
-fn push_helpers(
-    number: u16,
-    part: &Pattern,
-    rules: &mut Vec<NormalRule>,
-) -> Result<u16, NoMemory>
+fn push_helpers(number: u16, part: &Pattern, rules: &mut Vec<NormalRule>) -> Result<u16, NoMemory>
     requires names { names_of part.now ≤ most_names }
     requires few { number + length (parts part.now) ≤ most_normal_nonterminals }
     ensures rules { IfOk result (λ _. rules.new.items ≡ rules.old.items ++ helper_rules number (parts part.now)) }

@@ -8,6 +8,7 @@ use crate::cut::{body, inner_count, push_inner_helpers};
 use crate::normal::NormalRule;
 use sel_base::{NoMemory, Range};
 use sel_grammar::Grammar;
+use sel_range::Classes;
 use std::alloc::Global;
 
 /// The number, where there is a range to test.
@@ -41,7 +42,7 @@ pub fn cut_rules(alloc: Global, grammar: &Grammar) -> Result<Vec<NormalRule>, No
     let mut number = grammar.nonterminals.len() as u16;
     let mut test = 0;
     let mut rest = grammar.rules.as_slice();
-    'rules: while let Some((rule, behind)) = rest.split_first() {
+    'users: while let Some((rule, behind)) = rest.split_first() {
         rules.push(NormalRule {
             left: rule.left,
             cost: rule.cost,
@@ -62,7 +63,7 @@ pub fn push_helper_rules(grammar: &Grammar, rules: &mut Vec<NormalRule>) -> Resu
 {
     let mut number = grammar.nonterminals.len() as u16;
     let mut rest = grammar.rules.as_slice();
-    'rules: while let Some((rule, behind)) = rest.split_first() {
+    'helpers: while let Some((rule, behind)) = rest.split_first() {
         number = push_inner_helpers(number, &rule.pattern, rules)?;
         rest = behind;
     }
@@ -70,16 +71,25 @@ pub fn push_helper_rules(grammar: &Grammar, rules: &mut Vec<NormalRule>) -> Resu
 }
 
 /// The ranges of the rules that have one.
-pub fn tests_of(alloc: Global, grammar: &Grammar) -> Result<Vec<Range>, NoMemory>
+fn tests_of(alloc: Global, grammar: &Grammar) -> Result<Vec<Range>, NoMemory>
     ensures { IfOk result (λ ranges. ranges.items ≡ tests grammar.now.rules) }
 {
     let mut ranges = Vec::new(alloc);
     let mut rest = grammar.rules.as_slice();
-    'rules: while let Some((rule, behind)) = rest.split_first() {
+    'tested: while let Some((rule, behind)) = rest.split_first() {
         if let Some(range) = rule.range {
             ranges.push(range)?;
         }
         rest = behind;
     }
     Ok(ranges)
+}
+
+/// The classes of the rules' ranges.
+pub fn classes_of(alloc: Global, grammar: &Grammar) -> Result<Classes, NoMemory>
+    requires lawful { IsLawful grammar.now }
+    ensures { IfOk result (λ classes. classes ≡ tests grammar.now.rules) }
+{
+    let ranges = tests_of(alloc, grammar)?;
+    Classes::of(alloc, &ranges)
 }

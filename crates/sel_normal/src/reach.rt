@@ -65,31 +65,49 @@ fn lead_through(rows: &mut [u64], through: usize)
     }
 }
 
-/// Sets a bit for each free chain rule.
+/// Sets the bit of the rule, if it is a free chain rule.
+fn set_step(rule: &Rule, rows: &mut [u64])
+    requires left { rule.now.left < length rows.old }
+    requires target { (m : ℕ) → rule.now.pattern ≡ Pattern.Leaf m → m < most_nonterminals }
+    ensures { (n m : ℕ) → Leads rows.new n m ↔ (Leads rows.old n m ⊎ ((rule.now.left ≡ n) × IsFreeChain rule.now m)) }
+{
+    if let Some(to) = free_target(rule) {
+        set_bit(rows, rule.left as usize, to as usize);
+    }
+}
+
+/// Sets the bits of all free chain rules.
 fn set_steps(grammar: &Grammar, rows: &mut [u64])
     requires lawful { IsLawful grammar.now }
     requires long { length rows.old ≡ length grammar.now.nonterminals }
     ensures { (n m : ℕ) → Leads rows.new n m ↔ (Leads rows.old n m ⊎ ((r : ℕ) × IsFreeStep grammar.now r n m)) }
 {
     for rule in grammar.rules.as_slice() {
-        if let Some(to) = free_target(rule) {
-            set_bit(rows, rule.left as usize, to as usize);
-        }
+        set_step(rule, rows);
     }
 }
 
-/// A word for each nonterminal n: its bit m says that one or more free chain rules lead from n to m
-/// (Warshall's transitive closure).
+/// Sets the bit m of the word n exactly where one or more free chain rules lead from n to m (Warshall's
+/// transitive closure).
+fn set_walks(grammar: &Grammar, rows: &mut [u64])
+    requires lawful { IsLawful grammar.now }
+    requires long { length rows.old ≡ length grammar.now.nonterminals }
+    requires empty { (n m : ℕ) → Leads rows.old n m → ⊥ }
+    ensures { (n m : ℕ) → Leads rows.new n m ↔ FreeWalk grammar.now n m }
+{
+    set_steps(grammar, rows);
+    for through in 0..rows.len() {
+        lead_through(rows, through);
+    }
+}
+
+/// A word for each nonterminal n, whose bit m says that one or more free chain rules lead from n to m.
 pub fn free_leads(alloc: Global, grammar: &Grammar) -> Result<Vec<u64>, NoMemory>
     requires lawful { IsLawful grammar.now }
     ensures leads { IfOk result (λ rows. (n m : ℕ) → Leads rows.items n m ↔ FreeWalk grammar.now n m) }
     ensures long { IfOk result (λ rows. length rows.items ≡ length grammar.now.nonterminals) }
 {
-    let mut words = vec![in alloc; 0; grammar.nonterminals.len()]?;
-    let rows = words.as_mut_slice();
-    set_steps(grammar, rows);
-    for through in 0..rows.len() {
-        lead_through(rows, through);
-    }
-    Ok(words)
+    let mut rows = vec![in alloc; 0; grammar.nonterminals.len()]?;
+    set_walks(grammar, rows.as_mut_slice());
+    Ok(rows)
 }

@@ -52,7 +52,7 @@ pub returns-in_ok-push-in-Unary-clause-rules : goal.returns-in_ok-push-in-Unary-
 returns-in_ok-push-in-Unary-clause-rules t c =
     let o = is_over _ _ _ _ c.in-Unary.is c.get.ensures in
     ok_map c.push_helpers.result (λ x h. pushed_root c.args.number c.args.part.now (parts c.get.result.now) c.args.rules.now.items _ _ o.parts_is
-        (c.in_ok-push-in-Unary.ensures.items ∙ ap (λ x. c.args.rules.now.items ++ x ∷ []) c.helper_rule-in-Unary.ensures) h) c.push_helpers.ensures.rules
+    (c.in_ok-push-in-Unary.ensures.items ∙ ap (λ x. c.args.rules.now.items ++ x ∷ []) c.helper_rule-in-Unary.ensures) h) c.push_helpers.ensures.rules
 
 pub returns-in_ok-push-in-Unary-clause-behind : goal.returns-in_ok-push-in-Unary-clause-behind
 returns-in_ok-push-in-Unary-clause-behind t c =
@@ -64,8 +64,8 @@ returns-in_ok-behind-in-Binary-clause-rules t c =
     let o = are_over _ _ _ _ _ _ c.in-Binary.is c.get-in-Binary.ensures c.get-in-Binary-2.ensures in
     ok_map c.push_helpers-in-Binary-2.result
     (λ x h. pushed_root c.args.number c.args.part.now (parts c.get-in-Binary.result.now ++ parts c.get-in-Binary-2.result.now) c.args.rules.now.items _ _ o.parts_is
-        (c.in_ok-push-in-Binary.ensures.items ∙ ap (λ x. c.args.rules.now.items ++ x ∷ []) c.helper_rule-in-Binary.ensures)
-        (pushed_both (c.args.number + 1) _ (parts c.get-in-Binary.result.now) (parts c.get-in-Binary-2.result.now) _ _ _ c.in_ok-behind-in-Binary.ensures.behind c.in_ok-behind-in-Binary.ensures.rules h))
+    (c.in_ok-push-in-Binary.ensures.items ∙ ap (λ x. c.args.rules.now.items ++ x ∷ []) c.helper_rule-in-Binary.ensures)
+    (pushed_both (c.args.number + 1) _ (parts c.get-in-Binary.result.now) (parts c.get-in-Binary-2.result.now) _ _ _ c.in_ok-behind-in-Binary.ensures.behind c.in_ok-behind-in-Binary.ensures.rules h))
     c.push_helpers-in-Binary-2.ensures.rules
 
 pub returns-in_ok-behind-in-Binary-clause-behind : goal.returns-in_ok-behind-in-Binary-clause-behind

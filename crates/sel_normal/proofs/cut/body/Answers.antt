@@ -31,8 +31,8 @@ pub returns-in-Binary : goal.returns-in-Binary
 returns-in-Binary c =
     let o = are_over _ _ _ _ _ _ c.in-Binary.is c.get-in-Binary-2.ensures c.get-in-Binary-3.ensures in
     let long : c.operator_count.result ≡ length (parts c.get-in-Binary-2.result.now) =
-        c.operator_count.ensures ∙ ap (λ p. length (parts p)) (c.get-in-Binary.ensures ∙ sym c.get-in-Binary-2.ensures) in
+    c.operator_count.ensures ∙ ap (λ p. length (parts p)) (c.get-in-Binary.ensures ∙ sym c.get-in-Binary-2.ensures) in
     ap (λ (x : ℕ). Operator c.in-Binary.operator (Some x) (Some c.head-in-Binary-2.result) c.args.test) c.head-in-Binary.ensures
     ∙ ap (λ (x : ℕ). Operator c.in-Binary.operator (Some (head c.args.number c.get-in-Binary-2.result.now)) (Some x) c.args.test)
-        (c.head-in-Binary-2.ensures ∙ ap (λ (x : ℕ). head (c.args.number + x) c.get-in-Binary-3.result.now) long)
+    (c.head-in-Binary-2.ensures ∙ ap (λ (x : ℕ). head (c.args.number + x) c.get-in-Binary-3.result.now) long)
     ∙ sym (o.body_is c.args.number c.args.test)

@@ -49,7 +49,7 @@ returns-in_ok-behind-in-Binary-clause-rules c =
     let o = are_over _ _ _ _ _ _ c.in-Binary.is c.get-in-Binary.ensures c.get-in-Binary-2.ensures in
     ok_map c.push_helpers-in-Binary-2.result
     (λ x h. pushed_both c.args.number _ (parts c.get-in-Binary.result.now) (parts c.get-in-Binary-2.result.now) c.args.rules.now.items _ _ c.in_ok-behind-in-Binary.ensures.behind c.in_ok-behind-in-Binary.ensures.rules h
-        ∙ ap (λ l. c.args.rules.now.items ++ helper_rules c.args.number l) (sym o.inner_is))
+    ∙ ap (λ l. c.args.rules.now.items ++ helper_rules c.args.number l) (sym o.inner_is))
     c.push_helpers-in-Binary-2.ensures.rules
 
 pub returns-in_ok-behind-in-Binary-clause-behind : goal.returns-in_ok-behind-in-Binary-clause-behind

@@ -11,8 +11,8 @@ use Rattle.sel_normal.proofs.form.cut_rules.Goals as goal
 abbrev made : Rule → Body → NormalRule
 made rule b = record { left = rule.left; cost = rule.cost; body = b }
 
-pub rules-init : goal.rules-init
-rules-init c =
+pub users-init : goal.users-init
+users-init c =
     let w = c.requires.lawful.within in
     let same = c.as_slice-rest.ensures in
     let n = c.len-number.ensures in
@@ -28,15 +28,15 @@ rules-init c =
     }
 
 pub body-requires-clause-names : goal.body-requires-clause-names
-body-requires-clause-names c = (first_lawful _ _ _ _ c.in-Some.ensures.cases.0 c.rules.invariant.lawful).names
+body-requires-clause-names c = (first_lawful _ _ _ _ c.in-Some.ensures.cases.0 c.users.invariant.lawful).names
 
 pub inner_count-number-requires : goal.inner_count-number-requires
-inner_count-number-requires c = (first_lawful _ _ _ _ c.in-Some.ensures.cases.0 c.rules.invariant.lawful).names
+inner_count-number-requires c = (first_lawful _ _ _ _ c.in-Some.ensures.cases.0 c.users.invariant.lawful).names
 
-pub rules-preserved : goal.rules-preserved
-rules-preserved c =
+pub users-preserved : goal.users-preserved
+users-preserved c =
     let is = c.in-Some.ensures.cases.0 in
-    let i = c.rules.invariant in
+    let i = c.users.invariant in
     let few = i.few in
     let tests = i.tests in
     let long = places_long _ _ _ is in
@@ -44,8 +44,8 @@ rules-preserved c =
     let more = c.inner_count-number.ensures.is in
     let test = c.test_count-test.ensures.few in
     record {
-      made = one_rule_more c.rules.number c.rules.test _ _ _ _ _ _ _ _ is (ap (λ (x : ℕ). c.rules.number + x) more) (ap (λ (x : ℕ). c.rules.test + x) c.test_count-test.ensures.is)
-          (c.in_ok-push.ensures.items ∙ ap (λ b. c.rules.rules.items ++ made c.in-Some.rule.now b ∷ []) (c.body.ensures ∙ ap (λ t. body c.rules.number t c.in-Some.rule.now.pattern) c.test_number.ensures)) i.made;
+      made = one_rule_more c.users.number c.users.test _ _ _ _ _ _ _ _ is (ap (λ (x : ℕ). c.users.number + x) more) (ap (λ (x : ℕ). c.users.test + x) c.test_count-test.ensures.is)
+          (c.in_ok-push.ensures.items ∙ ap (λ b. c.users.rules.items ++ made c.in-Some.rule.now b ∷ []) (c.body.ensures ∙ ap (λ t. body c.users.number t c.in-Some.rule.now.pattern) c.test_number.ensures)) i.made;
       few = omega arith;
       tests = omega arith;
       lawful = rest_lawful _ _ _ _ is i.lawful;

@@ -4,8 +4,8 @@ use Rattle.sel_normal.specs.Forms.{places, inner_parts, helper_rules}
 use Rattle.sel_normal.proofs.Rests.{AreRulesOf, first_lawful, rest_lawful, places_long, rule_helpers_more}
 use Rattle.sel_normal.proofs.form.push_helper_rules.Goals as goal
 
-pub rules-init : goal.rules-init
-rules-init c =
+pub helpers-init : goal.helpers-init
+helpers-init c =
     let same = c.as_slice-rest.ensures in
     let n = c.len-number.ensures in
     let few = c.requires.few in
@@ -17,23 +17,23 @@ rules-init c =
     }
 
 pub push_inner_helpers-requires-clause-names : goal.push_inner_helpers-requires-clause-names
-push_inner_helpers-requires-clause-names c = (first_lawful _ _ _ _ c.in-Some.ensures.cases.0 c.rules.invariant.lawful).names
+push_inner_helpers-requires-clause-names c = (first_lawful _ _ _ _ c.in-Some.ensures.cases.0 c.helpers.invariant.lawful).names
 
 pub push_inner_helpers-requires-clause-few : goal.push_inner_helpers-requires-clause-few
 push_inner_helpers-requires-clause-few c =
-    let few = c.rules.invariant.few in
+    let few = c.helpers.invariant.few in
     let long = places_long _ _ _ c.in-Some.ensures.cases.0 in
     omega arith
 
-pub rules-preserved : goal.rules-preserved
-rules-preserved c =
+pub helpers-preserved : goal.helpers-preserved
+helpers-preserved c =
     let is = c.in-Some.ensures.cases.0 in
-    let i = c.rules.invariant in
+    let i = c.helpers.invariant in
     let few = i.few in
     let long = places_long _ _ _ is in
     let behind = c.in_ok-number.ensures.behind in
     record {
-      made = rule_helpers_more c.rules.number _ _ _ _ _ _ _ is behind c.in_ok-number.ensures.rules i.made;
+      made = rule_helpers_more c.helpers.number _ _ _ _ _ _ _ is behind c.in_ok-number.ensures.rules i.made;
       few = omega arith;
       lawful = rest_lawful _ _ _ _ is i.lawful;
     }
