@@ -61,9 +61,20 @@ module _ (g : Grammar) (nodes : List Node) (target : List ℕ) where
       at_node i node text rest get (named op 1 a node text rest is kids at
       (t, (below.1, subst (λ x. Leads g nodes target x rest) (one_kid text (operator_name g op) (attribute_text a) (codes "(") (tree_text g t) (codes ")")) h)))
   at_tree i (Node2 op a t u) text rest (node, get, is, kids, at, below) h =
-      at_node i node text rest get (named op 2 a node text rest is kids at
-      (t, (below.2, (u, (below.3, subst (λ x. Leads g nodes target x rest)
-      (two_kids text (operator_name g op) (attribute_text a) (codes "(") (tree_text g t) (codes ",") (tree_text g u) (codes ")")) h)))))
+      at_node i node text rest get (named op 2 a node text rest is kids at (
+        t,
+        (
+          below.2,
+          (
+            u,
+            (
+              below.3,
+              subst (λ x. Leads g nodes target x rest)
+                  (two_kids text (operator_name g op) (attribute_text a) (codes "(") (tree_text g t) (codes ",") (tree_text g u) (codes ")")) h,
+            ),
+          ),
+        ),
+      ))
 
   -- one task is performed
   pub Leads-next : (this : Task) (text : List ℕ) (rest : List Task) → Leads g nodes target text (this ∷ rest)

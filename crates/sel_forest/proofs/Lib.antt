@@ -13,6 +13,7 @@ pub mod Lawful
 pub mod Standing
 pub mod LineLoop
 pub mod ForestLoop
+pub mod Guessing
 pub mod OneForest
 pub mod Faultless
 pub mod OneFault
@@ -20,3 +21,5 @@ pub mod SomeAnswer
 pub mod SmallGrammars
 pub mod Walking
 pub mod Leading
+pub mod Rereading
+pub mod Reprinting

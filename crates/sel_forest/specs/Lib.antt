@@ -8,6 +8,7 @@ pub mod Form
 pub mod Machine
 pub mod TreeText
 pub mod LineFaults
+pub mod Guesses
 pub mod ForestText
 pub mod OpenNodes
 pub mod Surroundings

@@ -2,10 +2,11 @@
 
 ghost use Rattle.std.specs.Prelude.{◌≡◌, ℕ, List, [], ◌∷◌, ◌++◌, ◌<◌, ◌≤◌, ◌+◌, ◌^◌, length, Some, None, OnOk, IfOk};
 ghost use Rattle.sel_forest.specs.OpenNodes.{attached, Opened, opened_next, Holds, TakesToken};
+ghost use Rattle.sel_forest.specs.Guesses.{AreGuesses};
 ghost use Rattle.sel_forest.specs.Pieces.{view, IsLawful};
 
-use crate::faults::operator_number;
 use crate::forest::{Node, Tree};
+use crate::guess::operator_of;
 use crate::number::number;
 use crate::tokens::Piece;
 use sel_base::{List, NoMemory};
@@ -61,10 +62,12 @@ fn set_attribute(stack: &mut Vec<Node>, attribute: Attribute) -> Result<(), NoMe
 pub fn take(
     alloc: Global,
     grammar: &Grammar,
+    guesses: &[u8],
     stack: &mut Vec<Node>,
     nodes: &mut Vec<Node>,
     piece: &Piece<'_>,
 ) -> Result<(), NoMemory>
+    requires guesses { AreGuesses grammar.now guesses.now }
     requires operators { length grammar.now.operators < 2 ^ 8 }
     requires room { length nodes.old.items < 2 ^ 32 }
     requires lawful { IsLawful (view piece.now) }
@@ -74,7 +77,7 @@ pub fn take(
     match piece {
         Piece::Name(name) => {
             stack.push(Node {
-                operator: operator_number(grammar, name) as u8,
+                operator: operator_of(grammar, guesses, name) as u8,
                 kids: 0,
                 left: 0,
                 right: 0,

@@ -3,14 +3,15 @@
 ghost use Rattle.std.specs.Prelude.{◌≡◌, ℕ, ◌++◌, ◌∷◌, ◌<◌, ◌≤◌, ◌^◌, [], List, length, slice_get, map, ◌+◌, bytes_eq, None, Some};
 ghost use Rattle.std.specs.Option.{option_copied, option_map};
 ghost use Rattle.sel_grammar.specs.Limits.{IsWithinLimits};
+ghost use Rattle.sel_forest.specs.Guesses.{AreGuesses};
 ghost use Rattle.sel_forest.specs.LineFaults as faults;
 ghost use Rattle.sel_forest.specs.LineFaults.{Around};
 ghost use Rattle.sel_forest.specs.OpenNodes.{Opened, own_nodes, put_down, bare_in, parents_in, parent_of, behind_first, first_parent};
 ghost use Rattle.sel_forest.specs.Pieces.{view, IsLawful};
 ghost use Rattle.sel_forest.specs.Surroundings.{Meets};
-ghost use Rattle.sel_forest.specs.TreeText.{operator_number};
 
 use crate::forest::Node;
+use crate::guess::operator_of;
 use crate::limits::{
     ARITY, GREATEST_DEPTH, MOST_NODES, MOST_TREES, NUMBER_LARGE, TOO_DEEP, TOO_MANY_NODES,
     TOO_MANY_TREES, UNKNOWN_OPERATOR,
@@ -19,7 +20,7 @@ use crate::line::State;
 use crate::number::number;
 use crate::tokens::Piece;
 use crate::walk::node_at;
-use sel_grammar::{Grammar, Operator};
+use sel_grammar::Grammar;
 
 /// An operator whose parenthesis is open, and how many of its kids are whole.
 #[derive(Clone, Copy, Debug)]
@@ -36,24 +37,6 @@ pub struct Surroundings {
     pub parents: usize,
     pub bare: Option<u8>,
     pub parent: Option<Parent>,
-}
-
-fn is_named(operator: &Operator, name: &[u8]) -> bool
-    ensures { result ≡ bytes_eq operator.now.name name.now }
-{
-    operator.name.as_slice() == name
-}
-
-/// The number of the operator with this name, or the number of operators.
-pub fn operator_number(grammar: &Grammar, name: &[u8]) -> usize
-    ensures number { result ≡ operator_number grammar.now name.now }
-    ensures fits { result ≤ length grammar.now.operators }
-{
-    let operators = grammar.operators.as_slice();
-    operators
-        .iter()
-        .take_while(|operator| !is_named(operator, name))
-        .count()
 }
 
 fn least_kids(grammar: &Grammar, operator: u8) -> u8
@@ -128,7 +111,14 @@ fn has_wrong_arity(grammar: &Grammar, place: Surroundings, piece: &Piece<'_>) ->
     }
 }
 
-fn name_kind(grammar: &Grammar, trees: usize, place: Surroundings, name: &[u8]) -> Option<u8>
+fn name_kind(
+    grammar: &Grammar,
+    guesses: &[u8],
+    trees: usize,
+    place: Surroundings,
+    name: &[u8],
+) -> Option<u8>
+    requires { AreGuesses grammar.now guesses.now }
     ensures { (a : Around) → Meets a place → result ≡ faults.name_kind grammar.now trees a name.now }
 {
     if trees >= MOST_TREES && place.names == 0 {
@@ -139,7 +129,7 @@ fn name_kind(grammar: &Grammar, trees: usize, place: Surroundings, name: &[u8]) 
         Some(TOO_MANY_NODES)
     } else if grammar
         .operators
-        .get(operator_number(grammar, name))
+        .get(operator_of(grammar, guesses, name))
         .is_none()
     {
         Some(UNKNOWN_OPERATOR)
@@ -151,15 +141,17 @@ fn name_kind(grammar: &Grammar, trees: usize, place: Surroundings, name: &[u8]) 
 /// The kind of what is wrong with a token with which some line of the form goes on.
 pub fn kind_of(
     grammar: &Grammar,
+    guesses: &[u8],
     trees: usize,
     place: Surroundings,
     piece: &Piece<'_>,
 ) -> Option<u8>
-    requires { IsLawful (view piece.now) }
+    requires guesses { AreGuesses grammar.now guesses.now }
+    requires lawful { IsLawful (view piece.now) }
     ensures { (a : Around) → Meets a place → result ≡ faults.kind_of grammar.now trees a (view piece.now) }
 {
     match piece {
-        Piece::Name(name) => name_kind(grammar, trees, place, name),
+        Piece::Name(name) => name_kind(grammar, guesses, trees, place, name),
         Piece::Number(bytes) => match number(bytes) {
             None => Some(NUMBER_LARGE),
             Some(_) => None,

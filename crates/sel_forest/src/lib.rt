@@ -5,6 +5,7 @@ mod build;
 mod check;
 mod faults;
 mod forest;
+mod guess;
 pub mod laws;
 pub mod limits;
 mod line;
@@ -25,3 +26,5 @@ pub use walk::{Goal, fits_at, in_range, met, node_at, push_goals, rule_of};
 
 #[cfg(test)]
 mod tests;
+#[cfg(test)]
+mod tests_covers;

@@ -138,11 +138,7 @@ fn print_tree(
 
 /// The forest's text: each tree on a line without blanks, and behind each line a line feed. Numbers
 /// are in decimal, with no leading zeros.
-pub fn print_forest(
-    alloc: Global,
-    grammar: &Grammar,
-    forest: &Forest,
-) -> Result<List<u8>, NoMemory>
+pub fn print_forest(alloc: Global, grammar: &Grammar, forest: &Forest) -> Result<List<u8>, NoMemory>
     requires valid { IsValidForest grammar.now forest.now }
     ensures text { IfOk result (λ text. IsPrinted grammar.now forest.now text) }
     ensures again { HasNames grammar.now → IfOk result (λ text. SpellsForest grammar.now text forest.now) }

@@ -4,6 +4,7 @@ ghost use Rattle.std.specs.Prelude.{◌≡◌, ℕ, List, [], ◌∷◌, ◌++�
 ghost use Rattle.std.specs.List.{prefix_len};
 ghost use Rattle.sel_grammar.specs.Limits.{IsWithinLimits};
 ghost use Rattle.sel_forest.specs.ForestText.{lines_of, SpellsForest, IsForestRefusal, IsLineResult, IsLineRefusal};
+ghost use Rattle.sel_forest.specs.Guesses.{AreGuesses};
 ghost use Rattle.sel_forest.specs.Limits.{most_trees};
 ghost use Rattle.sel_forest.specs.Pieces.{lines_behind};
 ghost use Rattle.sel_forest.specs.Valid.{IsValidForest};
@@ -11,6 +12,7 @@ ghost use Rattle.sel_forest.specs.Valid.{IsValidForest};
 use crate::build::{finish, take};
 use crate::faults::{kind_of, surroundings_of};
 use crate::forest::{Forest, Node, Tree};
+use crate::guess::guesses_of;
 use crate::limits::{MOST_NODES, TOKEN};
 use crate::line::{State, step, wants_attribute};
 use crate::refusal::{ForestFault, ForestRefusal};
@@ -72,12 +74,22 @@ fn fault(kind: u8, number: u32, line: &[u8], from: &[u8]) -> ForestRefusal
     })
 }
 
-/// Room for the nodes of the line's tree: one more than it has parentheses and commas.
+/// How many parentheses open and how many commas stand on the line.
+fn kids_within(line: &[u8]) -> usize
+    ensures { result ≤ length line.now }
+{
+    let mut count: usize = 0;
+    'bytes: for b in line {
+        count += (*b == b'(' || *b == b',') as usize;
+    }
+    count
+}
+
+/// Room for the nodes of the line's tree: the root, and a node behind each parenthesis and comma.
 fn room(alloc: Global, line: &[u8]) -> Result<Vec<Node>, NoMemory>
     ensures { IfOk result (λ nodes. nodes.items ≡ []) }
 {
-    let kids = line.iter().filter(|b| **b == b'(' || **b == b',').count();
-    let nodes = Vec::with_capacity(alloc, kids.min(MOST_NODES - 1) + 1)?;
+    let nodes = Vec::with_capacity(alloc, kids_within(line).min(MOST_NODES - 1) + 1)?;
     Ok(nodes)
 }
 
@@ -85,12 +97,14 @@ fn room(alloc: Global, line: &[u8]) -> Result<Vec<Node>, NoMemory>
 fn read_line(
     alloc: Global,
     grammar: &Grammar,
+    guesses: &[u8],
     trees: usize,
     number: u32,
     line: &[u8],
     stack: &mut Vec<Node>,
 ) -> Result<Option<Tree>, ForestRefusal>
     requires within { IsWithinLimits grammar.now }
+    requires guesses { AreGuesses grammar.now guesses.now }
     requires short { length line.now + 1 < 2 ^ 32 }
     requires empty { stack.old.items ≡ [] }
     ensures line { IfOk result (λ tree. IsLineResult grammar.now line.now tree) }
@@ -107,14 +121,14 @@ fn read_line(
             return Err(fault(TOKEN, number, line, found.from));
         };
         let place = surroundings_of(state, stack, nodes.len());
-        if let Some(kind) = kind_of(grammar, trees, place, &found.piece) {
+        if let Some(kind) = kind_of(grammar, guesses, trees, place, &found.piece) {
             return Err(fault(kind, number, line, found.from));
         }
         if let State::Ended = next {
             let tree = finish(stack, nodes)?;
             return Ok(tree);
         }
-        take(alloc, grammar, stack, &mut nodes, &found.piece)?;
+        take(alloc, grammar, guesses, stack, &mut nodes, &found.piece)?;
         state = next;
         rest = found.behind;
     }
@@ -144,13 +158,22 @@ pub fn read_forest(alloc: Global, grammar: &Grammar, bytes: &[u8]) -> Result<For
     ensures valid { IfOk result (λ forest. IsValidForest grammar.now forest) }
     ensures fault { IfErr result (λ refusal. IsForestRefusal grammar.now bytes.now refusal) }
 {
+    let guesses = guesses_of(alloc, grammar)?;
     let mut trees = List::new(alloc);
     let mut stack = Vec::new(alloc);
     let mut number = 1;
     let mut rest = bytes;
     'lines: loop {
         let cut = first_line(rest);
-        let tree = read_line(alloc, grammar, trees.len(), number, cut.line, &mut stack)?;
+        let tree = read_line(
+            alloc,
+            grammar,
+            &guesses,
+            trees.len(),
+            number,
+            cut.line,
+            &mut stack,
+        )?;
         add(&mut trees, tree)?;
         let Some(behind) = cut.rest else {
             return Ok(Forest { trees });

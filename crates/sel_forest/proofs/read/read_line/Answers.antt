@@ -24,8 +24,8 @@ surroundings_of-place-requires c =
     let small = reached_small c.args.grammar.now c.args.trees c.args.line.now c.tokens.state c.tokens.rest.now c.tokens.stack.items c.tokens.nodes.items c.tokens.invariant in
     few_nodes c.len.result _ _ _ (omega (arith, c.len.ensures, c.tokens.nodes.ok.0)) (ap length c.deref.ensures.value) small
 
-pub kind_of-requires : goal.kind_of-requires
-kind_of-requires c =
+pub kind_of-requires-clause-lawful : goal.kind_of-requires-clause-lawful
+kind_of-requires-clause-lawful c =
     let e : Sees c.tokens.state c.tokens.rest.now c.wants_attribute.result c.next_token-found.result.from.now c.next_token-found.result.behind.now (view c.next_token-found.result.piece) c.step.result =
     record { flag_is = c.wants_attribute.ensures; from = c.next_token-found.ensures.from; token_is = c.next_token-found.ensures.token; behind_is = c.next_token-found.ensures.behind; stepped = c.step.ensures } in
     sees_lawful c.args.grammar.now c.args.trees c.args.line.now c.tokens.state c.tokens.rest.now c.tokens.stack.items c.tokens.nodes.items c.tokens.invariant _ _ _ _ _ e
@@ -106,6 +106,7 @@ take-requires c =
     let e : Sees c.tokens.state c.tokens.rest.now c.wants_attribute.result c.next_token-found.result.from.now c.next_token-found.result.behind.now (view c.next_token-found.result.piece) c.step.result =
     record { flag_is = c.wants_attribute.ensures; from = c.next_token-found.ensures.from; token_is = c.next_token-found.ensures.token; behind_is = c.next_token-found.ensures.behind; stepped = c.step.ensures } in
     record {
+      guesses = c.requires.guesses;
       operators = let within = c.requires.within.operators in omega arith;
       room = let small = reached_small c.args.grammar.now c.args.trees c.args.line.now c.tokens.state c.tokens.rest.now c.tokens.stack.items c.tokens.nodes.items c.tokens.invariant in omega arith;
       lawful = sees_lawful c.args.grammar.now c.args.trees c.args.line.now c.tokens.state c.tokens.rest.now c.tokens.stack.items c.tokens.nodes.items c.tokens.invariant _ _ _ _ _ e;

@@ -1,0 +1,109 @@
+-- A printed forest: how it grows tree by tree, and that it spells the forest.
+use Rattle.std.proofs.Common.{◌≡◌, ℕ, zero, suc, ◌+◌, ◌<◌, ◌≤◌, ◌==◌, Bool, true, false, not, ◌&&◌, Option, Some, None, List, [], ◌∷◌, ◌++◌, refl, ap, sym, ◌∙◌, subst, arith, append_assoc, slice_get, codes, length, take, slice_index_or, add-one}
+use Rattle.std.specs.Prelude.{map, flat_map, option_map}
+use Rattle.std.specs.List.{list_all, slice_split, onto_first}
+use Rattle.std.specs.Fmt.{decimal, signed_decimal}
+use Rattle.std.proofs.Math.Seq.{take-suc}
+use Rattle.std.proofs.lemmas.Grind.{flat_map-append}
+use Rattle.std.proofs.lemmas.List.{map-append, take_all}
+use Rattle.std.proofs.lemmas.List.Splits.{slice_split-cons_yes, slice_split-cons_no}
+use Rattle.std.proofs.lemmas.Option.{slice_get-map, slice_get_read}
+use Rattle.sel_grammar.specs.declared.grammar.Grammar.{Grammar}
+use Rattle.sel_grammar.specs.PlainTrees.{PlainTree, size}
+use Rattle.sel_forest.specs.declared.forest.Tree.{Tree}
+use Rattle.sel_forest.specs.declared.forest.Forest.{Forest}
+use Rattle.sel_forest.specs.ForestText.{SpellsLine, LinesSpell, no_lines, blank_line, tree_line, lines_of, SpellsForest}
+use Rattle.sel_forest.specs.Postorder.{IsPostorderOf, postorder}
+use Rattle.sel_forest.specs.Printed.{operator_name, attribute_text, tree_text, forest_text, tree_of, HasNames, IsPrinted}
+use Rattle.sel_forest.specs.Valid.{IsValidTree, IsValidForest, IsOver, depth}
+use Rattle.sel_forest.specs.Limits.{most_nodes, greatest_depth}
+use Rattle.sel_forest.proofs.Matching.{some_same}
+use Rattle.sel_forest.proofs.Roots.{plain_one}
+use Rattle.sel_forest.proofs.PlaceLemmas.{append-none}
+use Rattle.sel_forest.proofs.Rereading.{tree_tokens, tree_spelled, tree_cut, tree_inside}
+
+-- a valid tree is that of its plain tree
+same_tree_of : (tree : Tree) (t : PlainTree) → IsPostorderOf tree t → tree ≡ tree_of t
+same_tree_of tree t h = ap (λ nodes. record { nodes = nodes }) h
+
+-- One tree more.
+pub printed_first : (g : Grammar) → IsPrinted g (record { trees = [] }) []
+printed_first g = record { plain = []; trees_are = refl; text_is = refl }
+
+pub printed_next : (g : Grammar) (trees : List Tree) (tree : Tree) (t : PlainTree) (text text' : List ℕ) → IsPrinted g (record { trees = trees }) text → IsPostorderOf tree t
+    → text' ≡ text ++ (tree_text g t ++ codes "\n") → IsPrinted g (record { trees = trees ++ (tree ∷ []) }) text'
+printed_next g trees tree t text text' h postorder e = record {
+  plain = h.plain ++ (t ∷ []);
+  trees_are = (λ j. h.trees_are j ++ (same_tree_of tree t postorder j ∷ [])) ∙ sym (map-append tree_of h.plain (t ∷ []));
+  text_is =
+      e ∙ (λ j. h.text_is j ++ append-none (tree_text g t ++ codes "\n") j) ∙ sym (flat_map-append (λ t. tree_text g t ++ codes "\n") h.plain (t ∷ []));
+}
+
+-- a tree of a valid forest
+pub tree_at : (g : Grammar) (forest : Forest) (k : ℕ) (tree : Tree) → IsValidForest g forest → k < length forest.trees → tree ≡ slice_index_or forest.trees k tree → IsValidTree g tree
+tree_at g forest k tree valid lt is = valid.trees k tree (slice_get_read forest.trees (length forest.trees) k tree refl lt is)
+
+pub printed_at : (g : Grammar) (forest : Forest) (k : ℕ) (tree : Tree) (t : PlainTree) (text mid text' : List ℕ) → k < length forest.trees → tree ≡ slice_index_or forest.trees k tree → IsPostorderOf tree t
+    → IsPrinted g (record { trees = take k forest.trees }) text → mid ≡ text ++ tree_text g t → text' ≡ mid ++ codes "\n" → IsPrinted g (record { trees = take (k + 1) forest.trees }) text'
+printed_at g forest k tree t text mid text' lt is postorder h e e' =
+    let there : take (k + 1) forest.trees ≡ take k forest.trees ++ tree ∷ [] =
+    subst (λ t. take (k + 1) forest.trees ≡ take k forest.trees ++ t ∷ []) (sym is) (ap (λ k. take k forest.trees) (add-one k) ∙ take-suc forest.trees k tree lt) in
+    subst (λ trees. IsPrinted g (record { trees = trees }) text') (sym there)
+    (printed_next g (take k forest.trees) tree t text text' h postorder (e' ∙ ap (λ x. x ++ codes "\n") e ∙ append_assoc text (tree_text g t) (codes "\n")))
+
+pub printed_whole : (g : Grammar) (forest : Forest) (k : ℕ) (text : List ℕ) → length forest.trees ≤ k → IsPrinted g (record { trees = take k forest.trees }) text → IsPrinted g forest text
+printed_whole g forest k text h p = subst (λ trees. IsPrinted g (record { trees = trees }) text) (take_all k forest.trees h) p
+
+-- The lines of a text that is put together of lines.
+lines_cut : (line rest : List ℕ) → list_all (λ b. not (b == 10)) line ≡ true → lines_of (line ++ (10 ∷ rest)) ≡ line ∷ lines_of rest
+lines_cut [] rest h = slice_split-cons_yes (λ b. b == 10) 10 rest refl
+lines_cut (b ∷ line) rest h = go (b == 10) refl (lines_cut line rest)
+  where
+    go : (x : Bool) → (b == 10) ≡ x → (list_all (λ b. not (b == 10)) line ≡ true → lines_of (line ++ (10 ∷ rest)) ≡ line ∷ lines_of rest) → lines_of ((b ∷ line) ++ (10 ∷ rest)) ≡ (b ∷ line) ∷ lines_of rest
+    go true e ih = absurd (no_line_feed e h)
+      where
+        no_line_feed : (b == 10) ≡ true → (not (b == 10) && list_all (λ b. not (b == 10)) line) ≡ true → ⊥
+        no_line_feed e h = cc
+    go false e ih =
+        let more : list_all (λ b. not (b == 10)) line ≡ true = behind e h in
+        slice_split-cons_no (λ b. b == 10) b (line ++ (10 ∷ rest)) e ∙ ap (onto_first b) (ih more)
+      where
+        behind : (b == 10) ≡ false → (not (b == 10) && list_all (λ b. not (b == 10)) line) ≡ true → list_all (λ b. not (b == 10)) line ≡ true
+        behind e h = sym (ap (λ x. not x && list_all (λ b. not (b == 10)) line) e) ∙ h
+
+module _ (g : Grammar) (names : HasNames g) where
+  line_spelled : (t : PlainTree) → IsValidTree g (tree_of t) → IsOver g t → SpellsLine g (tree_text g t) (tree_of t)
+  line_spelled t valid over =
+      let same : valid.plain ≡ t = plain_one (tree_of t) valid.plain t valid.postorder refl in
+      record {
+        tokens = tree_tokens g t;
+        cut = tree_cut g names t over;
+        valid = record {
+          plain = t;
+          postorder = refl;
+          over = over;
+          small = subst (λ (s : PlainTree). size s ≤ most_nodes) same valid.small;
+          shallow = subst (λ (s : PlainTree). depth s ≤ greatest_depth) same valid.shallow;
+        };
+        spells = tree_spelled g names t over;
+      }
+
+  lines_spelled : (ts : List PlainTree) → ((k : ℕ) (t : PlainTree) → slice_get ts k ≡ Some t → IsValidTree g (tree_of t)) → LinesSpell g (lines_of (forest_text g ts)) (map tree_of ts)
+  lines_spelled [] valid = blank_line [] [] [] refl no_lines
+  lines_spelled (t ∷ ts) valid =
+      let here = valid 0 t refl in
+      let over : IsOver g t = subst (IsOver g) (plain_one (tree_of t) here.plain t here.postorder refl) here.over in
+      let rest = forest_text g ts in
+      let apart : forest_text g (t ∷ ts) ≡ tree_text g t ++ (10 ∷ rest) = append_assoc (tree_text g t) (codes "\n") rest in
+      let cut : lines_of (forest_text g (t ∷ ts)) ≡ tree_text g t ∷ lines_of rest = ap lines_of apart ∙ lines_cut (tree_text g t) rest (tree_inside g names t over) in
+      subst (λ lines. LinesSpell g lines (tree_of t ∷ map tree_of ts)) (sym cut)
+      (tree_line (tree_text g t) (lines_of rest) (tree_of t) (map tree_of ts) (line_spelled t here over) (lines_spelled ts (λ k s at. valid (suc k) s at)))
+
+  pub printed_spells : (forest : Forest) (text : List ℕ) → IsValidForest g forest → IsPrinted g forest text → SpellsForest g text forest
+  printed_spells forest text valid h = record {
+    lines = subst (λ x. LinesSpell g (lines_of x) forest.trees) (sym h.text_is) (subst (LinesSpell g (lines_of (forest_text g h.plain))) (sym h.trees_are) (lines_spelled h.plain each));
+    few = valid.few;
+  }
+    where
+      each : (k : ℕ) (t : PlainTree) → slice_get h.plain k ≡ Some t → IsValidTree g (tree_of t)
+      each k t at = valid.trees k (tree_of t) (ap (λ x. slice_get x k) h.trees_are ∙ slice_get-map tree_of h.plain k ∙ ap (option_map tree_of) at)

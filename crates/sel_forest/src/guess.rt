@@ -1,0 +1,74 @@
+//! Operators found by their names.
+
+ghost use Rattle.std.specs.Prelude.{◌≡◌, ◌<◌, ◌≤◌, length, bytes_eq, IfOk};
+ghost use Rattle.sel_grammar.specs.Limits.{most_operators};
+ghost use Rattle.sel_forest.specs.Guesses.{AreGuesses, guess_places};
+ghost use Rattle.sel_forest.specs.TreeText.{operator_number};
+
+use sel_base::NoMemory;
+use sel_grammar::{Grammar, Operator};
+use std::alloc::Global;
+
+/// How many guesses there are.
+const PLACES: usize = 4_096;
+
+/// A number that no operator has.
+const NO_OPERATOR: u8 = 255;
+
+fn is_named(operator: &Operator, name: &[u8]) -> bool
+    ensures { result ≡ bytes_eq operator.now.name name.now }
+{
+    operator.name.as_slice() == name
+}
+
+/// The number of the operator with this name, or the number of operators.
+fn operator_number(grammar: &Grammar, name: &[u8]) -> usize
+    ensures number { result ≡ operator_number grammar.now name.now }
+    ensures fits { result ≤ length grammar.now.operators }
+{
+    let operators = grammar.operators.as_slice();
+    operators
+        .iter()
+        .take_while(|operator| !is_named(operator, name))
+        .count()
+}
+
+/// Where the guess at a name's operator stands: names that differ may share it.
+fn place(name: &[u8]) -> usize
+    ensures { result < guess_places }
+{
+    let mut place: usize = 0;
+    'bytes: for byte in name {
+        place = (place * 31 + *byte as usize) % PLACES;
+    }
+    place
+}
+
+/// For each place a guess: the number of an operator whose name has this place, if any. A name is
+/// then mostly found with one comparison.
+pub fn guesses_of(alloc: Global, grammar: &Grammar) -> Result<Vec<u8>, NoMemory>
+    requires { length grammar.now.operators ≤ most_operators }
+    ensures { IfOk result (λ guesses. AreGuesses grammar.now guesses.items) }
+{
+    let mut guesses = vec![in alloc; NO_OPERATOR; PLACES]?;
+    'operators: for operator in grammar.operators.as_slice() {
+        let name = operator.name.as_slice();
+        guesses[place(name)] = operator_number(grammar, name) as u8;
+    }
+    Ok(guesses)
+}
+
+/// The number of the operator with this name, or the number of operators.
+pub fn operator_of(grammar: &Grammar, guesses: &[u8], name: &[u8]) -> usize
+    requires { AreGuesses grammar.now guesses.now }
+    ensures number { result ≡ operator_number grammar.now name.now }
+    ensures fits { result ≤ length grammar.now.operators }
+{
+    let guess = guesses[place(name)] as usize;
+    if let Some(operator) = grammar.operators.get(guess) {
+        if is_named(operator, name) {
+            return guess;
+        }
+    }
+    operator_number(grammar, name)
+}
