@@ -1,6 +1,6 @@
 // What a job writes.
 ghost use Rattle.std.specs.Prelude.{◌≡◌, ℕ, List, Some, None, IfOk};
-ghost use Rattle.sel_grammar.specs.Lawful.{IsLawful};
+ghost use Rattle.sel_grammar.specs.Limits.{IsWithinLimits};
 ghost use Rattle.sel_grammar.specs.Chains.{HasNoFreeCycle};
 ghost use Rattle.sel_forest.specs.Valid.{IsValidForest};
 ghost use Rattle.sel_cli.specs.Words.{PrintGrammar, OverForest};
@@ -23,7 +23,6 @@ pub struct Output {
 
 /// The grammar in print.
 pub fn grammar_output(alloc: Global, grammar: &Grammar) -> Result<Output, NoMemory>
-    requires lawful { IsLawful grammar.now }
     ensures { IfOk result (λ output. IsOutput PrintGrammar grammar.now None output.covered output.text.items) }
 {
     let text = print_grammar(alloc, grammar)?;
@@ -34,7 +33,6 @@ pub fn grammar_output(alloc: Global, grammar: &Grammar) -> Result<Output, NoMemo
 }
 
 fn printed_forest(alloc: Global, grammar: &Grammar, forest: &Forest) -> Result<Output, NoMemory>
-    requires lawful { IsLawful grammar.now }
     requires valid { IsValidForest grammar.now forest.now }
     ensures { (name : List ℕ) → IfOk result (λ output. IsOutput (OverForest Mode.Print name) grammar.now (Some forest.now) output.covered output.text.items) }
 {
@@ -53,7 +51,7 @@ pub fn forest_output<G: Gate>(
     forest: &Forest,
     gate: &G,
 ) -> Result<Output, NoMemory>
-    requires lawful { IsLawful grammar.now }
+    requires limits { IsWithinLimits grammar.now }
     requires free { HasNoFreeCycle grammar.now }
     requires valid { IsValidForest grammar.now forest.now }
     ensures { (name : List ℕ) → IfOk result (λ output. IsOutput (OverForest mode name) grammar.now (Some forest.now) output.covered output.text.items) }

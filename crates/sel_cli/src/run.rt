@@ -2,7 +2,7 @@
 ghost use Rattle.std.specs.Prelude.{◌≡◌, ◌≢◌, ◌≤◌, ◌⊎◌, [], List, ℕ, Option, None, Some, map, string_bytes, false};
 ghost use Rattle.std.specs.Io.KnownBytes.{append_known};
 ghost use Rattle.sel_base.specs.Causes.{Rose};
-ghost use Rattle.sel_grammar.specs.Lawful.{IsLawful};
+ghost use Rattle.sel_grammar.specs.Limits.{IsWithinLimits};
 ghost use Rattle.sel_grammar.specs.Chains.{HasNoFreeCycle};
 ghost use Rattle.sel_grammar.specs.declared.grammar.Grammar.{Grammar as AnyGrammar};
 ghost use Rattle.sel_forest.specs.Valid.{IsValidForest};
@@ -59,7 +59,6 @@ fn write_output<K: Sink>(out: &mut K, output: &Output) -> Status
 
 // Prints the accepted grammar.
 fn print<K: Sink>(alloc: Global, grammar: &Grammar, out: &mut K) -> Status
-    requires lawful { IsLawful grammar.now }
     ensures ends { (bytes : List ℕ) × WritesJobFor PrintGrammar grammar.now None (K.faults out.old) (K.faults out.new) bytes result
         × (K.taken out.new ≡ append_known (K.taken out.old) bytes) }
     ensures later { K.faults out.old ≤ K.faults out.new }
@@ -80,7 +79,7 @@ fn answer<K: Sink, G: Gate>(
     out: &mut K,
     gate: &G,
 ) -> Status
-    requires lawful { IsLawful grammar.now }
+    requires limits { IsWithinLimits grammar.now }
     requires free { HasNoFreeCycle grammar.now }
     requires valid { IsValidForest grammar.now forest.now }
     ensures ends { (name : List ℕ) → (bytes : List ℕ) × WritesJobFor (OverForest mode name) grammar.now (Some forest.now) (K.faults out.old) (K.faults out.new) bytes result
@@ -106,7 +105,7 @@ fn serve_forest<'a, S: Shelf, K: Sink, G: Gate>(
     gate: &G,
 ) -> Ended<'a>
     requires grammar { AcceptsGrammar MayBe (record { wanted = Some (task_for command); held = S.held shelf.old }) (task_for command) grammar.now }
-    requires lawful { IsLawful grammar.now }
+    requires limits { IsWithinLimits grammar.now }
     requires job { (task_for command).job ≡ OverForest mode name.now }
     ensures ends { (bytes : List ℕ)
         × EndsFor (record { wanted = Some (task_for command.entry); held = S.held shelf.old })
