@@ -1,10 +1,15 @@
 //! The text of a grammar: its tokens, its form, its faults, and what it says.
 #![tactic(auto)]
 
+mod checks;
 mod fault;
+mod finish;
 mod form;
+mod item;
 pub mod laws;
 mod number;
 mod pattern;
+mod tables;
 mod template;
 mod tokens;
+mod words;
