@@ -5,7 +5,7 @@ use Rattle.sel_grammar.specs.Limits.{greatest_external}
 use Rattle.sel_grammar_text.specs.Items.{Word, CostText, NoCost, Amount, Ranged, TailText, OneLine, Burg, Item, EntryItem, RuleItem}
 use Rattle.sel_grammar_text.specs.Checks.{begins_with_minus}
 use Rattle.sel_grammar_text.specs.Spots.{Spot}
-use Rattle.sel_grammar_text.specs.Tokens.{Token, Integer, Quoted}
+use Rattle.sel_grammar_text.specs.Tokens.{Token, Integer, width}
 
 -- the word consists of digits
 abbrev pub IsNumber : Word → Type 0
@@ -24,15 +24,15 @@ HasNumbersInCost NoCost = Unit {0}
 HasNumbersInCost (Amount w) = IsNumber w
 HasNumbersInCost (Ranged at lo hi addend) = IsBound lo × IsBound hi × IsNumberIfAny addend
 
--- the bytes of a text with a template end at a place that a number has
-abbrev pub HasEnd : Word → Type 0
-HasEnd w = w.at + length w.bytes < 2 ^ 64
+-- the word stands in a text that isn't too long
+abbrev pub IsWithin : Word → Type 0
+IsWithin w = w.at + length w.bytes < 2 ^ 63
 
 abbrev pub HasNumbersInTail : TailText → Type 0
-HasNumbersInTail (OneLine w cost) = HasEnd w × HasNumbersInCost cost
+HasNumbersInTail (OneLine w cost) = IsWithin w × HasNumbersInCost cost
 HasNumbersInTail (Burg external cost) = IsNumber external × IsNumberIfAny cost
 
--- the numbers of an item consist of digits, and its template ends somewhere
+-- the numbers of an item consist of digits, and it stands in a text that isn't too long
 abbrev pub HasNumbers : Item → Type 0
 HasNumbers (EntryItem name number) = IsNumber number
 HasNumbers (RuleItem r) = HasNumbersInTail r.tail
@@ -52,11 +52,12 @@ HasExternal (EntryItem name number) = IsExternal number
 HasExternal (RuleItem r) = HasExternalInTail r.tail
 HasExternal _ = Unit {0}
 
--- an Integer consists of digits, and a String that begins at a place ends somewhere
-abbrev pub IsTokenAt : ℕ → Token → Type 0
-IsTokenAt at (Integer digits) = AllDigits 10 digits
-IsTokenAt at (Quoted inside behind) = at + 1 + length inside < 2 ^ 64
-IsTokenAt at _ = Unit {0}
+-- an Integer consists of digits
+abbrev pub HasDigits : Token → Type 0
+HasDigits (Integer digits) = AllDigits 10 digits
+HasDigits _ = Unit {0}
 
-abbrev pub IsSpot : Spot → Type 0
-IsSpot s = IsTokenAt s.at s.token
+-- the token stands in a text that isn't too long, and an Integer consists of digits
+pub record IsSpot (s : Spot) : Type 0 where
+  pub within : s.at + width s.token < 2 ^ 63
+  pub digits : HasDigits s.token

@@ -25,12 +25,12 @@ operator_names ops = map (λ o. o.name) ops
 -- The tables hold the items of the text so far. What the rules say holds whichever nonterminals come later, and which name
 -- has no rule can be told from its first use alone.
 pub record Means (bytes : List ℕ) (items : List Item) (t : Tables) : Type 0 where
-  pub start : option_map words.word_of t.start ≡ start_word items
+  pub start : option_map words.view_word t.start ≡ start_word items
   pub operators_are : t.operators.items ≡ operators_of (uses (rules items)) items
   pub nonterminals_are : t.nonterminals.items ≡ nonterminals items
   pub lefts : map (λ w. w.bytes.now) t.lefts.items ≡ left_names (rules items)
   pub rules_are : (later : List Word) → t.rules.items ≡ map (rule_of bytes (operators items) (with_words (nonterminals items) later)) (rules items)
-  pub uses_are : (names : List (List ℕ)) → first_absent names (map words.word_of t.uses.items) ≡ first_absent names (nonterminal_uses (operators items) items)
+  pub uses_are : (names : List (List ℕ)) → first_absent names (map words.view_word t.uses.items) ≡ first_absent names (nonterminal_uses (operators items) items)
   pub few_operators : length t.operators.items ≤ most_operators
   pub few_nonterminals : length t.nonterminals.items ≤ most_nonterminals
 

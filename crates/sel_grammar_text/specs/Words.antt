@@ -5,9 +5,9 @@ use Rattle.sel_grammar_text.specs.Items.{word}
 use Rattle.sel_grammar_text.specs.Spots as spots
 use Rattle.sel_grammar_text.specs.Pieces.{view}
 use Rattle.sel_grammar_text.specs.declared.words.Spot.{Spot}
-use Rattle.sel_grammar_text.specs.declared.words.Word.{Word}
-use Rattle.sel_grammar_text.specs.declared.words.Cost.{Cost}
-use Rattle.sel_grammar_text.specs.declared.words.Cost.TheVariants.{Absent, Amount, Ranged}
+use Rattle.sel_grammar_text.specs.declared.words.TextWord.{TextWord}
+use Rattle.sel_grammar_text.specs.declared.words.WrittenCost.{WrittenCost}
+use Rattle.sel_grammar_text.specs.declared.words.WrittenCost.TheVariants.{Absent, Amount, Ranged}
 use Rattle.sel_grammar_text.specs.declared.words.Tail.{Tail}
 use Rattle.sel_grammar_text.specs.declared.words.Tail.TheVariants.{OneLine, Burg}
 use Rattle.sel_grammar_text.specs.declared.words.Named.{Named}
@@ -15,35 +15,35 @@ use Rattle.sel_grammar_text.specs.declared.words.RuleItem.{RuleItem}
 use Rattle.sel_grammar_text.specs.declared.words.Item.{Item}
 use Rattle.sel_grammar_text.specs.declared.words.Item.TheVariants.{Start, Entry, Code, Percents, Rule}
 
-abbrev pub spot_of : Spot → spots.Spot
-spot_of s = record { token = view s.piece; at = s.at }
+abbrev pub view_spot : Spot → spots.Spot
+view_spot s = record { token = view s.piece; at = s.at }
 
-abbrev pub word_of : Word → items.Word
-word_of w = word w.at w.bytes.now
+abbrev pub view_word : TextWord → items.Word
+view_word w = word w.at w.bytes.now
 
-abbrev pub cost_of : Cost → items.CostText
-cost_of Absent = items.NoCost
-cost_of (Amount w) = items.Amount (word_of w)
-cost_of (Ranged at lo hi addend) = items.Ranged at (word_of lo) (word_of hi) (option_map word_of addend)
+abbrev pub view_cost : WrittenCost → items.CostText
+view_cost Absent = items.NoCost
+view_cost (Amount w) = items.Amount (view_word w)
+view_cost (Ranged at lo hi addend) = items.Ranged at (view_word lo) (view_word hi) (option_map view_word addend)
 
-abbrev pub tail_of : Tail → items.TailText
-tail_of (OneLine w cost) = items.OneLine (word_of w) (cost_of cost)
-tail_of (Burg external cost) = items.Burg (word_of external) (option_map word_of cost)
+abbrev pub view_tail : Tail → items.TailText
+view_tail (OneLine w cost) = items.OneLine (view_word w) (view_cost cost)
+view_tail (Burg external cost) = items.Burg (view_word external) (option_map view_word cost)
 
-abbrev pub named_of : Named → items.Word × ℕ
-named_of n = (word_of n.word, n.kids)
+abbrev pub view_named : Named → items.Word × ℕ
+view_named n = (view_word n.word, n.kids)
 
-abbrev pub rule_text_of : RuleItem → items.RuleText
-rule_text_of r = record { left = word_of r.left; pattern = map named_of r.pattern.items; tail = tail_of r.tail }
+abbrev pub view_rule : RuleItem → items.RuleText
+view_rule r = record { left = view_word r.left; pattern = map view_named r.pattern.items; tail = view_tail r.tail }
 
-abbrev pub item_of : Item → items.Item
-item_of (Start w) = items.StartItem (word_of w)
-item_of (Entry name number) = items.EntryItem (word_of name) (word_of number)
-item_of Code = items.CodeItem
-item_of (Percents at) = items.PercentsItem at
-item_of (Rule r) = items.RuleItem (rule_text_of r)
+abbrev pub view_item : Item → items.Item
+view_item (Start w) = items.StartItem (view_word w)
+view_item (Entry name number) = items.EntryItem (view_word name) (view_word number)
+view_item Code = items.CodeItem
+view_item (Percents at) = items.PercentsItem at
+view_item (Rule r) = items.RuleItem (view_rule r)
 
 -- one item or none
-abbrev pub items_of : Option Item → List items.Item
-items_of None = []
-items_of (Some i) = item_of i ∷ []
+abbrev pub view_items : Option Item → List items.Item
+view_items None = []
+view_items (Some i) = view_item i ∷ []

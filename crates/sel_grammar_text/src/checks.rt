@@ -13,8 +13,8 @@ use crate::words::Item;
 
 /// The fault of the first check, in their order, that the item doesn't pass behind the items so far.
 pub fn check(tables: &Tables<'_>, item: &Item<'_>) -> Option<Fault>
-    requires { HasNumbers (words.item_of item.now) }
-    ensures { (bytes : List ℕ) (before : List items.Item) → Means bytes before tables.now → result ≡ faults.check before (words.item_of item.now) }
+    requires { HasNumbers (words.view_item item.now) }
+    ensures { (bytes : List ℕ) (before : List items.Item) → Means bytes before tables.now → result ≡ faults.check before (words.view_item item.now) }
 {
     None
 }

@@ -2,6 +2,7 @@
 #![tactic(auto)]
 
 mod checks;
+mod cost;
 mod fault;
 mod finish;
 mod form;

@@ -6,7 +6,7 @@ ghost use Rattle.sel_grammar_text.specs.ItemFaults.{check};
 ghost use Rattle.sel_grammar_text.specs.Tables.{Means, IsReady, IsPlaced, StandsRight};
 ghost use Rattle.sel_grammar_text.specs.Words as words;
 
-use crate::words::{Item, Word};
+use crate::words::{Item, TextWord};
 use sel_base::{Name, NoMemory};
 use sel_grammar::{Operator, Rule};
 use std::alloc::Global;
@@ -15,12 +15,12 @@ use std::alloc::Global;
 /// first stands behind `%start` or as a nonterminal in a pattern.
 #[derive(Debug, Drop)]
 pub struct Tables<'t> {
-    pub start: Option<Word<'t>>,
+    pub start: Option<TextWord<'t>>,
     pub operators: Vec<Operator>,
     pub nonterminals: Vec<Name>,
     pub rules: Vec<Rule>,
-    pub lefts: Vec<Word<'t>>,
-    pub uses: Vec<Word<'t>>,
+    pub lefts: Vec<TextWord<'t>>,
+    pub uses: Vec<TextWord<'t>>,
 }
 
 impl<'t> Tables<'t> {
@@ -46,9 +46,9 @@ impl<'t> Tables<'t> {
         line: u32,
         column: u32,
     ) -> Result<(), NoMemory>
-        requires { IsReady self.old (words.item_of item.now) }
-        ensures { OnOk result ((bytes : List ℕ) (before : List items.Item) → Means bytes before self.old → check before (words.item_of item.now) ≡ None
-            → StandsRight before (words.item_of item.now) → IsPlaced bytes line column (words.item_of item.now) → Means bytes (before ++ words.item_of item.now ∷ []) self.new) }
+        requires { IsReady self.old (words.view_item item.now) }
+        ensures { OnOk result ((bytes : List ℕ) (before : List items.Item) → Means bytes before self.old → check before (words.view_item item.now) ≡ None
+            → StandsRight before (words.view_item item.now) → IsPlaced bytes line column (words.view_item item.now) → Means bytes (before ++ words.view_item item.now ∷ []) self.new) }
     {
         Ok(())
     }

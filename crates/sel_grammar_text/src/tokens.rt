@@ -162,7 +162,7 @@ fn percent(bytes: &[u8]) -> Piece<'_>
 }
 
 /// The token at the front of the bytes, which begin with no blank.
-fn token_at(bytes: &[u8]) -> Piece<'_>
+pub fn token_at(bytes: &[u8]) -> Piece<'_>
     ensures { view result ≡ tokens.token_of bytes.now }
 {
     let Some((first, behind)) = bytes.split_first() else {
@@ -182,7 +182,7 @@ fn token_at(bytes: &[u8]) -> Piece<'_>
 }
 
 /// How many bytes a token takes.
-fn width(piece: &Piece<'_>) -> usize
+pub fn width(piece: &Piece<'_>) -> usize
     requires { tokens.width (view piece.now) < 2 ^ 64 }
     ensures { result ≡ tokens.width (view piece.now) }
 {
