@@ -1,6 +1,7 @@
 //! The text of a grammar: its tokens, its form, its faults, and what it says.
 #![tactic(auto)]
 
+mod bound;
 mod checks;
 mod cost;
 mod fault;
@@ -8,6 +9,7 @@ mod finish;
 mod form;
 mod item;
 pub mod laws;
+mod names;
 mod number;
 mod pattern;
 mod tables;

@@ -6,6 +6,7 @@ ghost use Rattle.std.specs.Char.{is_ascii_digit};
 ghost use Rattle.sel_grammar.specs.Names as names;
 ghost use Rattle.sel_grammar_text.specs.Blanks as blanks;
 ghost use Rattle.sel_grammar_text.specs.Pieces.{view};
+ghost use Rattle.sel_grammar_text.specs.Spots as spots;
 ghost use Rattle.sel_grammar_text.specs.Tokens as tokens;
 
 use sel_grammar::names::{is_letter, is_name_byte};
@@ -33,7 +34,8 @@ fn behind_pair(first: u8, second: u8, bytes: &[u8]) -> Option<&[u8]>
 
 /// What stands behind one blank or comment.
 fn behind_blank(bytes: &[u8]) -> Option<&[u8]>
-    ensures { MatchOption result (blanks.behind_blank bytes.now ≡ None) (λ rest. blanks.behind_blank bytes.now ≡ Some rest.now) }
+    ensures shorter { IfSome result (λ rest. length rest.now < length bytes.now) }
+    ensures rest { MatchOption result (blanks.behind_blank bytes.now ≡ None) (λ rest. blanks.behind_blank bytes.now ≡ Some rest.now) }
 {
     match bytes {
         [b, rest @ ..] if is_blank(*b) => Some(rest),
@@ -44,7 +46,8 @@ fn behind_blank(bytes: &[u8]) -> Option<&[u8]>
 
 /// The bytes without the blanks and comments at their front.
 pub fn skip(bytes: &[u8]) -> &[u8]
-    ensures { result.now ≡ blanks.skip bytes.now }
+    ensures skipped { result.now ≡ blanks.skip bytes.now }
+    ensures shorter { length result.now ≤ length bytes.now }
 {
     let mut left = bytes;
     while let Some(rest) = behind_blank(left) {
@@ -130,7 +133,8 @@ fn mark<'a>(b: u8) -> Piece<'a>
 
 /// What a quote begins, by the bytes behind it.
 fn quoted(bytes: &[u8]) -> Piece<'_>
-    ensures { view result ≡ tokens.quoted bytes.now }
+    ensures token { view result ≡ tokens.quoted bytes.now }
+    ensures fits { tokens.width (view result) ≤ length bytes.now + 1 }
 {
     match inside_len(bytes) {
         None => Piece::Unclosed,
@@ -143,7 +147,8 @@ fn quoted(bytes: &[u8]) -> Piece<'_>
 
 /// What a percent sign begins, by the bytes behind it.
 fn percent(bytes: &[u8]) -> Piece<'_>
-    ensures { view result ≡ tokens.percent bytes.now }
+    ensures token { view result ≡ tokens.percent bytes.now }
+    ensures fits { tokens.width (view result) ≤ length bytes.now + 1 }
 {
     if bytes.starts_with(b"start") {
         Piece::Start
@@ -162,8 +167,9 @@ fn percent(bytes: &[u8]) -> Piece<'_>
 }
 
 /// The token at the front of the bytes, which begin with no blank.
-pub fn token_at(bytes: &[u8]) -> Piece<'_>
-    ensures { view result ≡ tokens.token_of bytes.now }
+fn token_at(bytes: &[u8]) -> Piece<'_>
+    ensures token { view result ≡ tokens.token_of bytes.now }
+    ensures fits { tokens.width (view result) ≤ length bytes.now }
 {
     let Some((first, behind)) = bytes.split_first() else {
         return Piece::End;
@@ -182,7 +188,7 @@ pub fn token_at(bytes: &[u8]) -> Piece<'_>
 }
 
 /// How many bytes a token takes.
-pub fn width(piece: &Piece<'_>) -> usize
+fn width(piece: &Piece<'_>) -> usize
     requires { tokens.width (view piece.now) < 2 ^ 64 }
     ensures { result ≡ tokens.width (view piece.now) }
 {
@@ -195,5 +201,31 @@ pub fn width(piece: &Piece<'_>) -> usize
         Piece::Percents | Piece::OpenCode => 2,
         Piece::End => 0,
         _ => 1,
+    }
+}
+
+/// A token, the bytes from it on, and the bytes behind it.
+#[derive(Clone, Copy, Debug)]
+pub struct Found<'a> {
+    pub piece: Piece<'a>,
+    pub from: &'a [u8],
+    pub behind: &'a [u8],
+}
+
+/// The next token, blanks and comments left out.
+pub fn next_token(bytes: &[u8]) -> Found<'_>
+    ensures from { result.from.now ≡ blanks.skip bytes.now }
+    ensures from_within { length result.from.now ≤ length bytes.now }
+    ensures token { view result.piece ≡ tokens.token_of (blanks.skip bytes.now) }
+    ensures behind { result.behind.now ≡ spots.behind bytes.now }
+    ensures behind_within { length result.behind.now + tokens.width (view result.piece) ≡ length result.from.now }
+{
+    let from = skip(bytes);
+    let piece = token_at(from);
+    let behind = &from[width(&piece)..];
+    Found {
+        piece,
+        from,
+        behind,
     }
 }
