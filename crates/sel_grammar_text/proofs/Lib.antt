@@ -9,3 +9,4 @@ pub mod Templates
 pub mod Printed
 pub mod Built
 pub mod Examples
+pub mod NameNumbers

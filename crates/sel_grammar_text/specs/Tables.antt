@@ -1,15 +1,15 @@
 -- What the tables of a reader stand for: the items so far.
-use Rattle.std.specs.Prelude.{◌≡◌, ℕ, ◌≤◌, Option, Some, None, List, [], ◌∷◌, map, option_map, length}
+use Rattle.std.specs.Prelude.{◌≡◌, ℕ, ◌≤◌, Option, Some, None, List, [], ◌∷◌, ◌++◌, if◌then◌else◌, map, option_map, length}
 use Rattle.std.specs.List.{All}
 use Rattle.sel_grammar.specs.Limits.{most_operators, most_nonterminals, most_kids}
 use Rattle.sel_grammar.specs.declared.grammar.Operator.{Operator}
 use Rattle.sel_grammar_text.specs.Items.{Word, RuleText, Item, StartItem, EntryItem, RuleItem}
 use Rattle.sel_grammar_text.specs.Words as words
-use Rattle.sel_grammar_text.specs.Names.{operators, rules, nonterminal_words, with_words, nonterminals, uses}
+use Rattle.sel_grammar_text.specs.Names.{is_among, operators, rules, nonterminal_words, with_words, nonterminals, uses}
 use Rattle.sel_grammar_text.specs.Checks.{large_in_tail}
 use Rattle.sel_grammar_text.specs.ItemNumbers.{HasNumbers, HasExternal}
 use Rattle.sel_grammar_text.specs.Meaning.{operators_of, rule_of}
-use Rattle.sel_grammar_text.specs.GrammarText.{nonterminal_uses, left_names, first_absent}
+use Rattle.sel_grammar_text.specs.GrammarText.{nonterminal_uses}
 use Rattle.sel_grammar_text.specs.Places.{line_of, column_of}
 use Rattle.sel_grammar_text.specs.declared.tables.Tables.{Tables}
 
@@ -22,15 +22,19 @@ start_word (_ ∷ items) = start_word items
 abbrev pub operator_names : List Operator → List (List ℕ)
 operator_names ops = map (λ o. o.name) ops
 
--- The tables hold the items of the text so far. What the rules say holds whichever nonterminals come later, and which name
--- has no rule can be told from its first use alone.
+-- the uses, and behind them those of the words whose names are new
+abbrev pub with_uses : List Word → List Word → List Word
+with_uses us [] = us
+with_uses us (w ∷ words) = with_uses (if is_among (map (λ u. u.bytes) us) w.bytes then us else us ++ (w ∷ [])) words
+
+-- The tables hold the items of the text so far. What the rules say holds whichever nonterminals come later.
 pub record Means (bytes : List ℕ) (items : List Item) (t : Tables) : Type 0 where
-  pub start : option_map words.view_word t.start ≡ start_word items
+  pub start_is : option_map words.view_word t.start ≡ start_word items
   pub operators_are : t.operators.items ≡ operators_of (uses (rules items)) items
   pub nonterminals_are : t.nonterminals.items ≡ nonterminals items
-  pub lefts : map (λ w. w.bytes.now) t.lefts.items ≡ left_names (rules items)
+  pub lefts_are : map words.view_word t.lefts.items ≡ map (λ r. r.left) (rules items)
   pub rules_are : (later : List Word) → t.rules.items ≡ map (rule_of bytes (operators items) (with_words (nonterminals items) later)) (rules items)
-  pub uses_are : (names : List (List ℕ)) → first_absent names (map words.view_word t.uses.items) ≡ first_absent names (nonterminal_uses (operators items) items)
+  pub uses_are : map words.view_word t.uses.items ≡ with_uses [] (nonterminal_uses (operators items) items)
   pub few_operators : length t.operators.items ≤ most_operators
   pub few_nonterminals : length t.nonterminals.items ≤ most_nonterminals
 

@@ -1,7 +1,6 @@
 //! The text of a grammar: its tokens, its form, its faults, and what it says.
 #![tactic(auto)]
 
-mod bound;
 mod checks;
 mod cost;
 mod fault;
@@ -15,4 +14,5 @@ mod pattern;
 mod tables;
 mod template;
 mod tokens;
+mod values;
 mod words;
