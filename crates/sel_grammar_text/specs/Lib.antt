@@ -10,14 +10,17 @@ pub mod TemplateText
 pub mod Printing
 pub mod Spots
 pub mod Names
+pub mod Words
 pub mod Cutting
 pub mod Faults
 pub mod FormFaults
 pub mod FormDecision
 pub mod Checks
+pub mod ItemNumbers
 pub mod ItemFaults
 pub mod Patterns
 pub mod Places
 pub mod Meaning
 pub mod GrammarText
+pub mod Tables
 pub mod Laws

@@ -3,26 +3,12 @@
 ghost use Rattle.std.specs.Prelude.{◌≡◌, ◌+◌, ◌<◌, ◌≤◌, ◌^◌, [], ◌∷◌, length, MatchOption, IfSome, Some, None};
 ghost use Rattle.std.specs.Option.{option_map};
 ghost use Rattle.sel_grammar_text.specs.CostText as cost;
-ghost use Rattle.sel_grammar_text.specs.CostPieces.{view, view_word, view_cost, tokens_of};
+ghost use Rattle.sel_grammar_text.specs.CostPieces.{view, tokens_of};
+ghost use Rattle.sel_grammar_text.specs.Words.{view_word, view_cost};
 
 use crate::tokens::{behind, digits_len, name_len, skip};
+use crate::words::{TextWord, WrittenCost};
 use sel_grammar::names::is_letter;
-
-/// A word of the text, and where it begins.
-#[derive(Clone, Copy, Debug)]
-pub struct TextWord<'a> {
-    pub bytes: &'a [u8],
-    pub at: usize,
-}
-
-/// The cost of a one-line rule as it stands: none, a number, or a range with the place of its word
-/// `range`, its bounds and its addend.
-#[derive(Clone, Copy, Debug)]
-pub enum WrittenCost<'a> {
-    Absent,
-    Amount(TextWord<'a>),
-    Ranged(usize, TextWord<'a>, TextWord<'a>, Option<TextWord<'a>>),
-}
 
 /// A token of a cost: a name, digits, digits behind their sign, or a single byte.
 #[derive(Clone, Copy, Debug)]

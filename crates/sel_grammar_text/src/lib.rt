@@ -1,12 +1,19 @@
 //! The text of a grammar: its tokens, its form, its faults, and what it says.
 #![tactic(auto)]
 
+mod bound;
+mod checks;
 mod cost;
 mod fault;
+mod finish;
 mod form;
+mod item;
 pub mod laws;
+mod names;
 mod number;
 mod pattern;
 mod strings;
+mod tables;
 mod template;
 mod tokens;
+mod words;

@@ -175,7 +175,7 @@ fn percent(bytes: &[u8]) -> Piece<'_>
 }
 
 /// The token at the front of the bytes, which begin with no blank.
-fn token_at(bytes: &[u8]) -> Piece<'_>
+pub fn token_at(bytes: &[u8]) -> Piece<'_>
     ensures token { view result ≡ tokens.token_of bytes.now }
     ensures fits { tokens.width (view result) ≤ length bytes.now }
 {
@@ -196,7 +196,7 @@ fn token_at(bytes: &[u8]) -> Piece<'_>
 }
 
 /// How many bytes a token takes.
-fn width(piece: &Piece<'_>) -> usize
+pub fn width(piece: &Piece<'_>) -> usize
     requires { tokens.width (view piece.now) < 2 ^ 64 }
     ensures { result ≡ tokens.width (view piece.now) }
 {

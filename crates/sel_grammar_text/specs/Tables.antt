@@ -1,0 +1,62 @@
+-- What the tables of a reader stand for: the items so far.
+use Rattle.std.specs.Prelude.{◌≡◌, ℕ, ◌≤◌, Option, Some, None, List, [], ◌∷◌, map, option_map, length}
+use Rattle.std.specs.List.{All}
+use Rattle.sel_grammar.specs.Limits.{most_operators, most_nonterminals, most_kids}
+use Rattle.sel_grammar.specs.declared.grammar.Operator.{Operator}
+use Rattle.sel_grammar_text.specs.Items.{Word, RuleText, Item, StartItem, EntryItem, RuleItem}
+use Rattle.sel_grammar_text.specs.Words as words
+use Rattle.sel_grammar_text.specs.Names.{operators, rules, nonterminal_words, with_words, nonterminals, uses}
+use Rattle.sel_grammar_text.specs.Checks.{large_in_tail}
+use Rattle.sel_grammar_text.specs.ItemNumbers.{HasNumbers, HasExternal}
+use Rattle.sel_grammar_text.specs.Meaning.{operators_of, rule_of}
+use Rattle.sel_grammar_text.specs.GrammarText.{nonterminal_uses, left_names, first_absent}
+use Rattle.sel_grammar_text.specs.Places.{line_of, column_of}
+use Rattle.sel_grammar_text.specs.declared.tables.Tables.{Tables}
+
+-- the name behind the first `%start`
+abbrev pub start_word : List Item → Option Word
+start_word [] = None
+start_word (StartItem w ∷ items) = Some w
+start_word (_ ∷ items) = start_word items
+
+abbrev pub operator_names : List Operator → List (List ℕ)
+operator_names ops = map (λ o. o.name) ops
+
+-- The tables hold the items of the text so far. What the rules say holds whichever nonterminals come later, and which name
+-- has no rule can be told from its first use alone.
+pub record Means (bytes : List ℕ) (items : List Item) (t : Tables) : Type 0 where
+  pub start : option_map words.view_word t.start ≡ start_word items
+  pub operators_are : t.operators.items ≡ operators_of (uses (rules items)) items
+  pub nonterminals_are : t.nonterminals.items ≡ nonterminals items
+  pub lefts : map (λ w. w.bytes.now) t.lefts.items ≡ left_names (rules items)
+  pub rules_are : (later : List Word) → t.rules.items ≡ map (rule_of bytes (operators items) (with_words (nonterminals items) later)) (rules items)
+  pub uses_are : (names : List (List ℕ)) → first_absent names (map words.view_word t.uses.items) ≡ first_absent names (nonterminal_uses (operators items) items)
+  pub few_operators : length t.operators.items ≤ most_operators
+  pub few_nonterminals : length t.nonterminals.items ≤ most_nonterminals
+
+-- the rule can be put into the tables: each of its numbers has room
+pub record IsReadyRule (t : Tables) (r : RuleText) : Type 0 where
+  pub operators_fit : length t.operators.items ≤ most_operators
+  pub nonterminals_fit : length (with_words t.nonterminals.items (nonterminal_words (operator_names t.operators.items) r)) ≤ most_nonterminals
+  pub kids : All (λ n. n.1 ≤ most_kids) r.pattern
+  pub costs : large_in_tail r.tail ≡ None
+
+abbrev pub IsReadyFor : Tables → Item → Type 0
+IsReadyFor t (RuleItem r) = IsReadyRule t r
+IsReadyFor t _ = Unit {0}
+
+-- each number of the item has room in the tables
+pub record IsReady (t : Tables) (item : Item) : Type 0 where
+  pub numbers : HasNumbers item
+  pub external : HasExternal item
+  pub room : IsReadyFor t item
+
+-- a rule's left name stands at the line and the column
+abbrev pub IsPlaced : List ℕ → ℕ → ℕ → Item → Type 0
+IsPlaced bytes line column (RuleItem r) = (line ≡ line_of bytes r.left.at) × (column ≡ column_of bytes r.left.at)
+IsPlaced bytes line column _ = Unit {0}
+
+-- an entry stands before all rules
+abbrev pub StandsRight : List Item → Item → Type 0
+StandsRight before (EntryItem name number) = rules before ≡ []
+StandsRight before _ = Unit {0}
