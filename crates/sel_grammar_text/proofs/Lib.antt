@@ -1,4 +1,7 @@
 pub mod Blanks
+pub mod CostSteps
+pub mod CostLists
+pub mod Shorter
 pub mod Digits
 pub mod FormSound
 pub mod FormComplete

@@ -5,6 +5,7 @@ pub mod Form
 pub mod Machine
 pub mod Items
 pub mod CostText
+pub mod CostPieces
 pub mod TemplateText
 pub mod Printing
 pub mod Spots

@@ -11,6 +11,7 @@ pub mod laws;
 mod names;
 mod number;
 mod pattern;
+mod strings;
 mod tables;
 mod template;
 mod tokens;

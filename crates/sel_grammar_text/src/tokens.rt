@@ -1,6 +1,6 @@
 //! Blanks, comments and tokens.
 
-ghost use Rattle.std.specs.Prelude.{◌≡◌, ◌≤◌, ◌<◌, ◌+◌, ◌^◌, length, MatchOption, IfSome, false};
+ghost use Rattle.std.specs.Prelude.{drop, ◌≡◌, ◌≤◌, ◌<◌, ◌+◌, ◌^◌, length, MatchOption, IfSome, false};
 ghost use Rattle.std.specs.List.{prefix_len};
 ghost use Rattle.std.specs.Char.{is_ascii_digit};
 ghost use Rattle.sel_grammar.specs.Names as names;
@@ -15,6 +15,14 @@ fn is_blank(b: u8) -> bool
     ensures { result ≡ blanks.is_blank b }
 {
     b == b' ' || b == b'\t' || b == b'\r' || b == 12 || b == b'\n'
+}
+
+/// The bytes behind the first n.
+pub fn behind(bytes: &[u8], n: usize) -> &[u8]
+    requires { n ≤ length bytes.now }
+    ensures { result.now ≡ drop n bytes.now }
+{
+    &bytes[n..]
 }
 
 /// What stands behind the first two such bytes.
@@ -74,14 +82,14 @@ fn inside_len(bytes: &[u8]) -> Option<usize>
     None
 }
 
-fn name_len(bytes: &[u8]) -> usize
+pub fn name_len(bytes: &[u8]) -> usize
     ensures len { result ≡ prefix_len names.is_name_byte bytes.now }
     ensures fits { result ≤ length bytes.now }
 {
     bytes.iter().take_while(|b| is_name_byte(**b)).count()
 }
 
-fn digits_len(bytes: &[u8]) -> usize
+pub fn digits_len(bytes: &[u8]) -> usize
     ensures len { result ≡ prefix_len is_ascii_digit bytes.now }
     ensures fits { result ≤ length bytes.now }
 {
@@ -167,7 +175,7 @@ fn percent(bytes: &[u8]) -> Piece<'_>
 }
 
 /// The token at the front of the bytes, which begin with no blank.
-fn token_at(bytes: &[u8]) -> Piece<'_>
+pub fn token_at(bytes: &[u8]) -> Piece<'_>
     ensures token { view result ≡ tokens.token_of bytes.now }
     ensures fits { tokens.width (view result) ≤ length bytes.now }
 {
@@ -188,7 +196,7 @@ fn token_at(bytes: &[u8]) -> Piece<'_>
 }
 
 /// How many bytes a token takes.
-fn width(piece: &Piece<'_>) -> usize
+pub fn width(piece: &Piece<'_>) -> usize
     requires { tokens.width (view piece.now) < 2 ^ 64 }
     ensures { result ≡ tokens.width (view piece.now) }
 {
