@@ -1,5 +1,5 @@
 -- The number of a name in a list of names, and lists to which names are added.
-use Rattle.std.proofs.Common.{◌≡◌, ℕ, suc, ◌+◌, ◌<◌, List, [], ◌∷◌, ◌++◌, Bool, true, false, length, refl, ap, sym, ◌∙◌, arith, cond, ◌||◌, map}
+use Rattle.std.proofs.Common.{◌≡◌, ℕ, suc, ◌+◌, ◌<◌, ◌≤◌, List, [], ◌∷◌, ◌++◌, Bool, true, false, length, refl, ap, sym, ◌∙◌, arith, cond, ◌||◌, map}
 use Rattle.std.specs.Prelude.{nat_lt, not, bytes_eq, if◌then◌else◌}
 use Rattle.std.specs.List.{prefix_len, list_any, position_or_len}
 use Rattle.std.proofs.lemmas.List.{length-map}
@@ -28,3 +28,12 @@ is_among_number names name = any_prefix (λ other. bytes_eq other name) names
 pub is_among_map : {X : Type 0} (f : X → List ℕ) (xs : List X) (name : List ℕ) (n : ℕ) → n ≡ position_or_len (λ x. bytes_eq (f x) name) xs → nat_lt n (length xs) ≡ is_among (map f xs) name
 is_among_map f xs name n e =
     ap (λ m. nat_lt m (length xs)) (e ∙ sym (number_of_map f xs name)) ∙ ap (nat_lt (number_of (map f xs) name)) (sym (length-map xs f)) ∙ sym (is_among_number (map f xs) name)
+
+pub number_mapped : {X : Type 0} (f : X → List ℕ) (xs : List X) (name : List ℕ) (n : ℕ) → n ≡ position_or_len (λ x. bytes_eq (f x) name) xs → n ≡ number_of (map f xs) name
+number_mapped f xs name n e = e ∙ sym (number_of_map f xs name)
+
+pub among_below : {X : Type 0} (f : X → List ℕ) (xs : List X) (name : List ℕ) (n : ℕ) → n ≡ position_or_len (λ x. bytes_eq (f x) name) xs → n < length xs → is_among (map f xs) name ≡ true
+among_below f xs name n e h = let t : nat_lt n (length xs) ≡ true = grind (arith, h) in sym (is_among_map f xs name n e) ∙ t
+
+pub not_among_past : {X : Type 0} (f : X → List ℕ) (xs : List X) (name : List ℕ) (n : ℕ) → n ≡ position_or_len (λ x. bytes_eq (f x) name) xs → length xs ≤ n → is_among (map f xs) name ≡ false
+not_among_past f xs name n e h = let t : nat_lt n (length xs) ≡ false = grind (arith, h) in sym (is_among_map f xs name n e) ∙ t

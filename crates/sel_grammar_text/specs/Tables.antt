@@ -1,14 +1,16 @@
 -- What the tables of a reader stand for: the items so far.
 use Rattle.std.specs.Prelude.{◌≡◌, ℕ, ◌≤◌, Option, Some, None, List, [], ◌∷◌, ◌++◌, if◌then◌else◌, map, option_map, length}
-use Rattle.std.specs.List.{All}
+use Rattle.std.specs.List.{AllByRecursion}
 use Rattle.sel_grammar.specs.Limits.{most_operators, most_nonterminals, most_kids}
 use Rattle.sel_grammar.specs.declared.grammar.Operator.{Operator}
+use Rattle.sel_grammar.specs.declared.grammar.Rule.{Rule}
 use Rattle.sel_grammar_text.specs.Items.{Word, RuleText, Item, StartItem, EntryItem, RuleItem}
 use Rattle.sel_grammar_text.specs.Words as words
-use Rattle.sel_grammar_text.specs.Names.{is_among, operators, rules, nonterminal_words, with_words, nonterminals, uses}
+use Rattle.sel_grammar_text.specs.Names.{is_among, number_of, operators, rules, nonterminal_words, with_words, nonterminals, uses}
 use Rattle.sel_grammar_text.specs.Checks.{large_in_tail}
 use Rattle.sel_grammar_text.specs.ItemNumbers.{HasNumbers, HasExternal}
-use Rattle.sel_grammar_text.specs.Meaning.{operators_of, rule_of}
+use Rattle.sel_grammar_text.specs.Meaning.{operators_of, rule_of, parts_of_tail, cost_number, range_of, external_of}
+use Rattle.sel_grammar_text.specs.Patterns.{pattern_of}
 use Rattle.sel_grammar_text.specs.GrammarText.{nonterminal_uses}
 use Rattle.sel_grammar_text.specs.Places.{line_of, column_of}
 use Rattle.sel_grammar_text.specs.declared.tables.Tables.{Tables}
@@ -21,6 +23,19 @@ start_word (_ ∷ items) = start_word items
 
 abbrev pub operator_names : List Operator → List (List ℕ)
 operator_names ops = map (λ o. o.name) ops
+
+-- what a rule says whose left name stands at the line and the column
+abbrev pub rule_at : ℕ → ℕ → List (List ℕ) → List (List ℕ) → RuleText → Rule
+rule_at line column ops nts r = record {
+  left = number_of nts r.left.bytes;
+  pattern = pattern_of ops nts r.pattern;
+  template = record { parts = parts_of_tail r.tail };
+  cost = record { first = cost_number r.tail; second = 0 };
+  range = range_of r.tail;
+  external = external_of r.tail;
+  line = line;
+  column = column;
+}
 
 -- the uses, and behind them those of the words whose names are new
 abbrev pub with_uses : List Word → List Word → List Word
@@ -42,7 +57,7 @@ pub record Means (bytes : List ℕ) (items : List Item) (t : Tables) : Type 0 wh
 pub record IsReadyRule (t : Tables) (r : RuleText) : Type 0 where
   pub operators_fit : length t.operators.items ≤ most_operators
   pub nonterminals_fit : length (with_words t.nonterminals.items (nonterminal_words (operator_names t.operators.items) r)) ≤ most_nonterminals
-  pub kids : All (λ n. n.1 ≤ most_kids) r.pattern
+  pub kids : AllByRecursion (λ n. n.1 ≤ most_kids) r.pattern
   pub costs : large_in_tail r.tail ≡ None
 
 abbrev pub IsReadyFor : Tables → Item → Type 0

@@ -8,6 +8,7 @@ mod finish;
 mod form;
 mod item;
 pub mod laws;
+mod meaning;
 mod names;
 mod number;
 mod pattern;
