@@ -1,5 +1,5 @@
 -- What the tables of a reader stand for: the items so far.
-use Rattle.std.specs.Prelude.{◌≡◌, ℕ, ◌≤◌, Option, Some, None, List, [], ◌∷◌, ◌++◌, if◌then◌else◌, map, option_map, length}
+use Rattle.std.specs.Prelude.{◌≡◌, ℕ, ◌≤◌, Option, Some, None, List, [], ◌∷◌, ◌++◌, if◌then◌else◌, map, option_map, length, bytes_eq, not, is_some, ◌&&◌}
 use Rattle.std.specs.List.{AllByRecursion}
 use Rattle.sel_grammar.specs.Limits.{most_operators, most_nonterminals, most_kids}
 use Rattle.sel_grammar.specs.declared.grammar.Operator.{Operator}
@@ -36,6 +36,15 @@ rule_at line column ops nts r = record {
   line = line;
   column = column;
 }
+
+-- the operator has as many kids as at this use, where it is its first
+abbrev pub with_use : Word × ℕ → Operator → Operator
+with_use u o = if bytes_eq o.name u.0.bytes && not (is_some o.arity) then record o { arity = Some u.1 } else o
+
+-- the operators behind these uses
+abbrev pub noted : List (Word × ℕ) → List Operator → List Operator
+noted [] ops = ops
+noted (u ∷ us) ops = noted us (map (with_use u) ops)
 
 -- the uses, and behind them those of the words whose names are new
 abbrev pub with_uses : List Word → List Word → List Word

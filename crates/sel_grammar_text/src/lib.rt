@@ -1,6 +1,7 @@
 //! The text of a grammar: its tokens, its form, its faults, and what it says.
 #![tactic(auto)]
 
+mod arity;
 mod checks;
 mod cost;
 mod fault;
