@@ -13,3 +13,7 @@ pub mod Printed
 pub mod Built
 pub mod Examples
 pub mod NameNumbers
+pub mod ItemLists
+pub mod NumberStays
+pub mod Passes
+pub mod TableSteps

@@ -21,6 +21,11 @@ start_word [] = None
 start_word (StartItem w ∷ items) = Some w
 start_word (_ ∷ items) = start_word items
 
+-- the first of two
+abbrev pub or_word : Option Word → Option Word → Option Word
+or_word None other = other
+or_word (Some w) other = Some w
+
 abbrev pub operator_names : List Operator → List (List ℕ)
 operator_names ops = map (λ o. o.name) ops
 
@@ -39,7 +44,7 @@ rule_at line column ops nts r = record {
 
 -- the operator has as many kids as at this use, where it is its first
 abbrev pub with_use : Word × ℕ → Operator → Operator
-with_use u o = if bytes_eq o.name u.0.bytes && not (is_some o.arity) then record o { arity = Some u.1 } else o
+with_use u o = if bytes_eq u.0.bytes o.name && not (is_some o.arity) then record o { arity = Some u.1 } else o
 
 -- the operators behind these uses
 abbrev pub noted : List (Word × ℕ) → List Operator → List Operator

@@ -14,7 +14,7 @@ fn note(operator: &mut Operator, named: &Named<'_>)
     requires { named.now.kids ≤ most_kids }
     ensures { operator.new ≡ with_use (view_named named.now) operator.old }
 {
-    if operator.name.as_slice() == named.word.bytes && operator.arity.is_none() {
+    if named.word.bytes == operator.name.as_slice() && operator.arity.is_none() {
         operator.arity = Some(named.kids as u8);
     }
 }
