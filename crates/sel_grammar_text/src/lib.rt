@@ -4,6 +4,7 @@
 mod bound;
 mod checks;
 mod cost;
+mod decision;
 mod fault;
 mod finish;
 mod form;
@@ -12,6 +13,8 @@ pub mod laws;
 mod names;
 mod number;
 mod pattern;
+mod place;
+mod scan;
 mod strings;
 mod tables;
 mod template;

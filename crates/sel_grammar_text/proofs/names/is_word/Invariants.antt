@@ -3,7 +3,6 @@ use Rattle.sel_grammar_text.specs.Names as names
 use Rattle.sel_grammar_text.specs.GrammarText.{first_absent}
 use Rattle.sel_grammar_text.specs.Tables.{operator_names}
 use Rattle.sel_grammar_text.specs.Words.{view_word, view_named}
-
 use Rattle.sel_grammar_text.proofs.names.is_word.Given as goal
 
 abbrev pub invariant-words : goal.invariant-words
