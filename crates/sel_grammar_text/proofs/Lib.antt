@@ -18,3 +18,4 @@ pub mod Templates
 pub mod Printed
 pub mod Built
 pub mod Examples
+pub mod NameNumbers

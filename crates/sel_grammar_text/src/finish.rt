@@ -9,7 +9,6 @@ ghost use Rattle.sel_grammar_text.specs.Tables.{Means};
 
 use crate::fault::Fault;
 use crate::tables::Tables;
-use sel_base::List;
 use sel_grammar::Grammar;
 
 /// The fault behind the last item, where the text ends at a place.
@@ -26,8 +25,8 @@ pub fn grammar_of(tables: Tables<'_>) -> Grammar
 {
     Grammar {
         start: 0,
-        operators: List::from_vec(tables.operators),
-        nonterminals: List::from_vec(tables.nonterminals),
-        rules: List::from_vec(tables.rules),
+        operators: sel_base::List::from_vec(tables.operators),
+        nonterminals: sel_base::List::from_vec(tables.nonterminals),
+        rules: sel_base::List::from_vec(tables.rules),
     }
 }

@@ -11,7 +11,7 @@ ghost use Rattle.sel_grammar_text.specs.Tokens as tokens;
 ghost use Rattle.sel_grammar_text.specs.Words as words;
 
 use crate::cost::cost;
-use crate::tokens::{Piece, skip, token_at, width};
+use crate::tokens::{Piece, next_token};
 use crate::words::{Item, Named, RuleItem, Spot, Tail, TextWord, WrittenCost};
 use sel_base::NoMemory;
 use std::alloc::Global;
@@ -31,13 +31,12 @@ pub fn spots_of<'t>(
     let mut spots = Vec::new(alloc);
     let mut rest = left;
     'tokens: for _ in 0..count {
-        let from = skip(rest);
-        let piece = token_at(from);
+        let found = next_token(rest);
         spots.push(Spot {
-            piece,
-            at: all - from.len(),
+            piece: found.piece,
+            at: all - found.from.len(),
         })?;
-        rest = &from[width(&piece)..];
+        rest = found.behind;
     }
     Ok(spots)
 }

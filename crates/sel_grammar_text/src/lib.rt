@@ -1,7 +1,7 @@
 //! The text of a grammar: its tokens, its form, its faults, and what it says.
 #![tactic(auto)]
 
-mod bound;
+mod arity;
 mod checks;
 mod cost;
 mod decision;
@@ -10,6 +10,7 @@ mod finish;
 mod form;
 mod item;
 pub mod laws;
+mod meaning;
 mod names;
 mod number;
 mod pattern;
@@ -19,4 +20,5 @@ mod strings;
 mod tables;
 mod template;
 mod tokens;
+mod values;
 mod words;
