@@ -23,4 +23,5 @@ pub mod Places
 pub mod Meaning
 pub mod GrammarText
 pub mod Tables
+pub mod Extents
 pub mod Laws

@@ -1,5 +1,4 @@
 -- What the code's tokens stand for.
-use Rattle.std.specs.Str.Parse.{AllDigits}
 use Rattle.sel_grammar_text.specs.Tokens.{Token, Name, Integer, Quoted, Unclosed, Start, Term, Percents, Code, OpenCode, Colon, Equals, Open, Close, Comma, Semi, Bad, End}
 use Rattle.sel_grammar_text.specs.declared.tokens.Piece.{Piece}
 use Rattle.sel_grammar_text.specs.declared.tokens.Piece.TheVariants as piece
@@ -23,8 +22,3 @@ view piece.Comma = Comma
 view piece.Semi = Semi
 view (piece.Bad b) = Bad b
 view piece.End = End
-
--- an Integer is made of digits
-abbrev pub IsLawful : Token → Type 0
-IsLawful (Integer bytes) = AllDigits 10 bytes
-IsLawful _ = Unit {0}

@@ -4,7 +4,8 @@ ghost use Rattle.std.specs.Prelude.{◌≡◌, ◌<◌, ◌^◌};
 ghost use Rattle.std.specs.Str.Parse.{AllDigits};
 ghost use Rattle.sel_grammar_text.specs.Form as form;
 ghost use Rattle.sel_grammar_text.specs.Machine as machine;
-ghost use Rattle.sel_grammar_text.specs.Pieces.{view, IsLawful};
+ghost use Rattle.sel_grammar_text.specs.ItemNumbers.{HasDigits};
+ghost use Rattle.sel_grammar_text.specs.Pieces.{view};
 
 use crate::number::number;
 use crate::tokens::Piece;
@@ -82,7 +83,7 @@ fn declare(started: bool, entries: bool, piece: &Piece<'_>) -> Option<State>
 /// The state behind the token, or none where no text goes on with it.
 pub fn step(state: State, piece: &Piece<'_>) -> Option<State>
     requires shallow { machine.open_count state < 2 ^ 63 }
-    requires lawful { IsLawful (view piece.now) }
+    requires digits { HasDigits (view piece.now) }
     ensures { result ≡ machine.step state (view piece.now) }
 {
     match (state, piece) {
@@ -105,5 +106,25 @@ pub fn step(state: State, piece: &Piece<'_>) -> Option<State>
         (State::Priced, Piece::Close) => Some(State::Finishing),
         (State::Finishing, Piece::Semi) => Some(State::Ruling),
         _ => None,
+    }
+}
+
+/// Whether an item ends there, or the text.
+pub fn is_border(state: State) -> bool
+    ensures { result ≡ machine.is_border state }
+{
+    match state {
+        State::Declaring(_, _) | State::Ruling | State::Ended => true,
+        _ => false,
+    }
+}
+
+/// Whether a parenthesis there opens a cost.
+pub fn wants_cost(state: State) -> bool
+    ensures { result ≡ machine.wants_cost state }
+{
+    match state {
+        State::Numbered => true,
+        _ => false,
     }
 }

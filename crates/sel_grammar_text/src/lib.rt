@@ -4,6 +4,7 @@
 mod arity;
 mod checks;
 mod cost;
+mod decision;
 mod fault;
 mod finish;
 mod form;
@@ -13,6 +14,8 @@ mod meaning;
 mod names;
 mod number;
 mod pattern;
+mod place;
+mod scan;
 mod strings;
 mod tables;
 mod template;

@@ -5,6 +5,7 @@ ghost use Rattle.std.specs.List.{prefix_len};
 ghost use Rattle.std.specs.Char.{is_ascii_digit};
 ghost use Rattle.sel_grammar.specs.Names as names;
 ghost use Rattle.sel_grammar_text.specs.Blanks as blanks;
+ghost use Rattle.sel_grammar_text.specs.ItemNumbers.{HasDigits};
 ghost use Rattle.sel_grammar_text.specs.Pieces.{view};
 ghost use Rattle.sel_grammar_text.specs.Spots as spots;
 ghost use Rattle.sel_grammar_text.specs.Tokens as tokens;
@@ -221,10 +222,12 @@ pub struct Found<'a> {
 }
 
 /// The next token, blanks and comments left out.
+#[tactic(auto, using(crate::proofs::DigitTokens::token_digits))]
 pub fn next_token(bytes: &[u8]) -> Found<'_>
     ensures from { result.from.now ≡ blanks.skip bytes.now }
     ensures from_within { length result.from.now ≤ length bytes.now }
     ensures token { view result.piece ≡ tokens.token_of (blanks.skip bytes.now) }
+    ensures digits { HasDigits (view result.piece) }
     ensures behind { result.behind.now ≡ spots.behind bytes.now }
     ensures behind_within { length result.behind.now + tokens.width (view result.piece) ≡ length result.from.now }
 {
