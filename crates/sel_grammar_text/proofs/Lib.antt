@@ -13,6 +13,7 @@ pub mod Deciding
 pub mod PlaceSteps
 pub mod Bordering
 pub mod Depths
+pub mod Tails
 pub mod Walking
 pub mod Templates
 pub mod Printed

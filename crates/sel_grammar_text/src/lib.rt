@@ -15,6 +15,7 @@ mod names;
 mod number;
 mod pattern;
 mod place;
+mod read;
 mod scan;
 mod strings;
 mod tables;
