@@ -15,6 +15,7 @@ pub mod Bordering
 pub mod Depths
 pub mod Tails
 pub mod Walking
+pub mod SomeAnswer
 pub mod Templates
 pub mod Printed
 pub mod Built
