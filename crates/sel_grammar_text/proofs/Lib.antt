@@ -23,3 +23,5 @@ pub mod ItemLists
 pub mod NumberStays
 pub mod Passes
 pub mod TableSteps
+pub mod RuleChecks
+pub mod FromTables

@@ -42,6 +42,16 @@ rule_at line column ops nts r = record {
   column = column;
 }
 
+-- how many kids the operator with the name has, where there is one
+abbrev pub arity_in : List Operator → List ℕ → Option (Option ℕ)
+arity_in [] name = None
+arity_in (o ∷ ops) name = if bytes_eq o.name name then Some o.arity else arity_in ops name
+
+-- the first of two counts
+abbrev pub or_count : Option ℕ → Option ℕ → Option ℕ
+or_count None other = other
+or_count (Some n) other = Some n
+
 -- the operator has as many kids as at this use, where it is its first
 abbrev pub with_use : Word × ℕ → Operator → Operator
 with_use u o = if bytes_eq u.0.bytes o.name && not (is_some o.arity) then record o { arity = Some u.1 } else o

@@ -5,10 +5,10 @@ ghost use Rattle.sel_grammar_text.specs.Checks as checks;
 ghost use Rattle.sel_grammar_text.specs.Items as items;
 ghost use Rattle.sel_grammar_text.specs.Meaning.{operators_of};
 ghost use Rattle.sel_grammar_text.specs.Names as spec;
-ghost use Rattle.sel_grammar_text.specs.Tables.{operator_names};
+ghost use Rattle.sel_grammar_text.specs.Tables.{operator_names, arity_in, or_count};
 ghost use Rattle.sel_grammar_text.specs.Words.{view_named, view_word, view_rule};
 
-use crate::names::{is_leaf, is_name, is_operator, operator_number};
+use crate::names::{is_leaf, is_name, is_operator};
 use crate::words::{Named, RuleItem};
 use sel_base::Name;
 use sel_grammar::Operator;
@@ -77,22 +77,42 @@ fn differs(earlier: Option<usize>, kids: usize) -> bool
     }
 }
 
+/// How many kids the operator with the name has by its first use, where there is such an operator.
+fn arity_of(operators: &[Operator], name: &[u8]) -> Option<Option<u8>>
+    ensures { result ≡ arity_in operators.now name.now }
+{
+    let mut rest = operators;
+    'operators: while let [operator, behind @ ..] = rest {
+        if operator.name.as_slice() == name {
+            return Some(operator.arity);
+        }
+        rest = behind;
+    }
+    None
+}
+
+/// How many kids the name has at its first use, before the pattern or in its part.
+fn first_kids(known: Option<u8>, earlier: &[Named<'_>], name: &[u8]) -> Option<usize>
+    ensures { result ≡ or_count known (spec.first_use (map view_named earlier.now) name.now) }
+{
+    match known {
+        Some(kids) => Some(usize::from(kids)),
+        None => first_use(earlier, name),
+    }
+}
+
 /// Whether a nonterminal has kids, or an operator has too many or another number than at its first
 /// use, of which the operators know those before the pattern.
 fn has_wrong_kids(operators: &[Operator], earlier: &[Named<'_>], named: &Named<'_>) -> bool
     ensures { (us : List (items.Word × ℕ)) (all : List items.Item) → operators.now ≡ operators_of us all → result ≡ checks.has_wrong_kids (spec.operators all) (us ++ map view_named earlier.now) (view_named named.now) }
 {
-    let number = operator_number(operators, named.word.bytes);
-    match operators.get(number) {
-        None => named.kids > 0,
-        Some(operator) => {
-            let first = match operator.arity {
-                Some(kids) => Some(usize::from(kids)),
-                None => first_use(earlier, named.word.bytes),
-            };
-            named.kids > MOST_KIDS || differs(first, named.kids)
-        }
+    let Some(known) = arity_of(operators, named.word.bytes) else {
+        return named.kids > 0;
+    };
+    if named.kids > MOST_KIDS {
+        return true;
     }
+    differs(first_kids(known, earlier, named.word.bytes), named.kids)
 }
 
 /// The first name of the pattern that has a wrong number of kids.
@@ -117,7 +137,13 @@ fn is_new(
 ) -> bool
     ensures { (at : ℕ) → result ≡ not (spec.is_among (spec.with_words nonterminals.now (items.word at left.now ∷ spec.leaves (operator_names operators.now) (map view_named earlier.now))) name.now) }
 {
-    !is_name(nonterminals, name) && left != name && !is_leaf_name(operators, earlier, name)
+    if is_name(nonterminals, name) {
+        return false;
+    }
+    if left == name {
+        return false;
+    }
+    !is_leaf_name(operators, earlier, name)
 }
 
 /// The first nonterminal of the rule that is new where there are as many as there may be.
@@ -137,13 +163,17 @@ pub fn past_most(
     }
     let pattern = rule.pattern.as_slice();
     'names: for (i, named) in pattern.iter().enumerate() {
-        let name = named.word.bytes;
-        if is_leaf(operators, named) && is_new(operators, nonterminals, rule.left.bytes, &pattern[..i], name) {
-            if count >= MOST_NONTERMINALS {
-                return Some(named.word.at);
-            }
-            count += 1;
+        if !is_leaf(operators, named) {
+            continue;
         }
+        let earlier = &pattern[..i];
+        if !is_new(operators, nonterminals, rule.left.bytes, earlier, named.word.bytes) {
+            continue;
+        }
+        if count >= MOST_NONTERMINALS {
+            return Some(named.word.at);
+        }
+        count += 1;
     }
     None
 }
