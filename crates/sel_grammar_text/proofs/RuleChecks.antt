@@ -1,5 +1,7 @@
 -- What the checks of a rule's names give, by the tables.
-use Rattle.std.proofs.Common.{◌≡◌, ℕ, suc, ◌+◌, ◌<◌, ◌≤◌, List, [], ◌∷◌, ◌++◌, Option, Some, None, Bool, true, false, length, refl, ap, sym, ◌∙◌, arith, cond, eqb, ◌||◌, ◌&&◌, map}
+use Rattle.std.proofs.Common.{◌≡◌, ℕ, suc, ◌+◌, ◌<◌, ◌≤◌, List, [], ◌∷◌, ◌++◌, Option, Some, None, Bool, true, false, length, refl, ap, sym, ◌∙◌, arith, cond, eqb, ◌||◌, ◌&&◌, map, take, drop, get_or, drop-cons, length-append}
+use Rattle.std.proofs.lemmas.List.{map_more}
+use Rattle.sel_grammar_text.proofs.ItemLists.{with_words-append}
 use Rattle.std.specs.Prelude.{not, bytes_eq, nat_lt, nat_le}
 use Rattle.std.proofs.lemmas.Slice.Eq.{bytes_eq-Decides}
 use Rattle.sel_grammar.specs.Limits.{most_nonterminals, most_kids}
@@ -84,3 +86,92 @@ leaves-append ops (n ∷ xs) ys = go (eqb n.1 0 && not (is_among ops n.0.bytes))
     go : (b : Bool) → leaves ops (xs ++ ys) ≡ leaves ops xs ++ leaves ops ys → cond b (n.0 ∷ leaves ops (xs ++ ys)) (leaves ops (xs ++ ys)) ≡ cond b (n.0 ∷ leaves ops xs) (leaves ops xs) ++ leaves ops ys
     go true h = ap (λ x. n.0 ∷ x) h
     go false h = h
+
+-- the names behind the first i names of a pattern, and the leaves of those that are left
+abbrev pub known_to : {X : Type 0} → (X → Word × ℕ) → List (List ℕ) → List (List ℕ) → Word → List X → ℕ → List (List ℕ)
+known_to f ops nts left p i = with_words nts (left ∷ leaves ops (map f (take i p)))
+
+abbrev pub leaves_from : {X : Type 0} → (X → Word × ℕ) → List (List ℕ) → List X → ℕ → List Word
+leaves_from f ops p i = leaves ops (map f (drop i p))
+
+pub record PastStep {X : Type 0} (f : X → Word × ℕ) (ops nts : List (List ℕ)) (left : Word) (p : List X) (i count : ℕ) : Type 0 where
+  pub same : past_most (known_to f ops nts left p (i + 1)) (leaves_from f ops p (i + 1)) ≡ past_most (known_to f ops nts left p i) (leaves_from f ops p i)
+  pub counted : count ≡ length (known_to f ops nts left p (i + 1))
+
+known_more : {X : Type 0} (f : X → Word × ℕ) (ops nts : List (List ℕ)) (left : Word) (p : List X) (i : ℕ) (d : X) → i < length p
+    → known_to f ops nts left p (i + 1) ≡ with_words (known_to f ops nts left p i) (leaves ops (f (get_or p i d) ∷ []))
+known_more f ops nts left p i d h =
+    ap (λ x. with_words nts (left ∷ leaves ops x)) (map_more f p i d h) ∙ ap (λ x. with_words nts (left ∷ x)) (leaves-append ops (map f (take i p)) (f (get_or p i d) ∷ []))
+    ∙ with_words-append nts (left ∷ leaves ops (map f (take i p))) (leaves ops (f (get_or p i d) ∷ []))
+
+left_more : {X : Type 0} (f : X → Word × ℕ) (ops : List (List ℕ)) (p : List X) (i : ℕ) (d : X) → i < length p
+    → leaves_from f ops p i ≡ leaves ops (f (get_or p i d) ∷ map f (drop (i + 1) p))
+left_more f ops p i d h = ap (λ x. leaves ops (map f x)) (let s : suc i ≡ i + 1 = omega arith in drop-cons p i d h ∙ ap (λ n. get_or p i d ∷ drop n p) s)
+
+pub past_no_leaf : {X : Type 0} (f : X → Word × ℕ) (ops nts : List (List ℕ)) (left : Word) (p : List X) (i count : ℕ) (d : X) → i < length p
+    → (eqb (f (get_or p i d)).1 0 && not (is_among ops (f (get_or p i d)).0.bytes)) ≡ false → count ≡ length (known_to f ops nts left p i) → PastStep f ops nts left p i count
+past_no_leaf f ops nts left p i count d h e k =
+    let n : known_to f ops nts left p (i + 1) ≡ known_to f ops nts left p i = known_more f ops nts left p i d h ∙ ap (λ b. with_words (known_to f ops nts left p i) (cond b ((f (get_or p i d)).0 ∷ []) [])) e in
+    let l : leaves_from f ops p i ≡ leaves_from f ops p (i + 1) = left_more f ops p i d h ∙ ap (λ b. cond b ((f (get_or p i d)).0 ∷ leaves_from f ops p (i + 1)) (leaves_from f ops p (i + 1))) e in
+    record { same = ap (λ x. past_most x (leaves_from f ops p (i + 1))) n ∙ ap (past_most (known_to f ops nts left p i)) (sym l); counted = k ∙ ap length (sym n) }
+
+-- at a leaf
+leaf_known : {X : Type 0} (f : X → Word × ℕ) (ops nts : List (List ℕ)) (left : Word) (p : List X) (i : ℕ) (d : X) (b : Bool) → i < length p
+    → (eqb (f (get_or p i d)).1 0 && not (is_among ops (f (get_or p i d)).0.bytes)) ≡ true → is_among (known_to f ops nts left p i) (f (get_or p i d)).0.bytes ≡ b
+    → known_to f ops nts left p (i + 1) ≡ cond b (known_to f ops nts left p i) (known_to f ops nts left p i ++ ((f (get_or p i d)).0.bytes ∷ []))
+leaf_known f ops nts left p i d b h e k =
+    known_more f ops nts left p i d h ∙ ap (λ b. with_words (known_to f ops nts left p i) (cond b ((f (get_or p i d)).0 ∷ []) [])) e
+    ∙ ap (λ b. cond b (known_to f ops nts left p i) (known_to f ops nts left p i ++ ((f (get_or p i d)).0.bytes ∷ []))) k
+
+leaf_left : {X : Type 0} (f : X → Word × ℕ) (ops : List (List ℕ)) (p : List X) (i : ℕ) (d : X) → i < length p
+    → (eqb (f (get_or p i d)).1 0 && not (is_among ops (f (get_or p i d)).0.bytes)) ≡ true → leaves_from f ops p i ≡ (f (get_or p i d)).0 ∷ leaves_from f ops p (i + 1)
+leaf_left f ops p i d h e = left_more f ops p i d h ∙ ap (λ b. cond b ((f (get_or p i d)).0 ∷ leaves_from f ops p (i + 1)) (leaves_from f ops p (i + 1))) e
+
+pub past_known : {X : Type 0} (f : X → Word × ℕ) (ops nts : List (List ℕ)) (left : Word) (p : List X) (i count : ℕ) (d : X) → i < length p
+    → (eqb (f (get_or p i d)).1 0 && not (is_among ops (f (get_or p i d)).0.bytes)) ≡ true → is_among (known_to f ops nts left p i) (f (get_or p i d)).0.bytes ≡ true
+    → count ≡ length (known_to f ops nts left p i) → PastStep f ops nts left p i count
+past_known f ops nts left p i count d h e a k =
+    let n = leaf_known f ops nts left p i d true h e a in
+    let w = (f (get_or p i d)).0 in
+    record {
+      same = ap (λ x. past_most x (leaves_from f ops p (i + 1))) n
+          ∙ sym (ap (past_most (known_to f ops nts left p i)) (leaf_left f ops p i d h e)
+          ∙ ap (λ b. cond b (past_most (known_to f ops nts left p i) (leaves_from f ops p (i + 1))) (cond (nat_le most_nonterminals (length (known_to f ops nts left p i))) (Some w.at) (past_most (known_to f ops nts left p i ++ (w.bytes ∷ [])) (leaves_from f ops p (i + 1))))) a);
+      counted = k ∙ ap length (sym n);
+    }
+
+past_new_is : {X : Type 0} (f : X → Word × ℕ) (ops nts : List (List ℕ)) (left : Word) (p : List X) (i : ℕ) (d : X) (t : Bool) → i < length p
+    → (eqb (f (get_or p i d)).1 0 && not (is_among ops (f (get_or p i d)).0.bytes)) ≡ true → is_among (known_to f ops nts left p i) (f (get_or p i d)).0.bytes ≡ false
+    → nat_le most_nonterminals (length (known_to f ops nts left p i)) ≡ t
+    → past_most (known_to f ops nts left p i) (leaves_from f ops p i) ≡ cond t (Some (f (get_or p i d)).0.at) (past_most (known_to f ops nts left p i ++ ((f (get_or p i d)).0.bytes ∷ [])) (leaves_from f ops p (i + 1)))
+past_new_is f ops nts left p i d t h e a g =
+    let w = (f (get_or p i d)).0 in
+    ap (past_most (known_to f ops nts left p i)) (leaf_left f ops p i d h e)
+    ∙ ap (λ b. cond b (past_most (known_to f ops nts left p i) (leaves_from f ops p (i + 1))) (cond (nat_le most_nonterminals (length (known_to f ops nts left p i))) (Some w.at) (past_most (known_to f ops nts left p i ++ (w.bytes ∷ [])) (leaves_from f ops p (i + 1))))) a
+    ∙ ap (λ b. cond b (Some w.at) (past_most (known_to f ops nts left p i ++ (w.bytes ∷ [])) (leaves_from f ops p (i + 1)))) g
+
+pub past_new : {X : Type 0} (f : X → Word × ℕ) (ops nts : List (List ℕ)) (left : Word) (p : List X) (i count : ℕ) (d : X) → i < length p
+    → (eqb (f (get_or p i d)).1 0 && not (is_among ops (f (get_or p i d)).0.bytes)) ≡ true → is_among (known_to f ops nts left p i) (f (get_or p i d)).0.bytes ≡ false
+    → count ≡ length (known_to f ops nts left p i) → count < most_nonterminals → PastStep f ops nts left p i (count + 1)
+past_new f ops nts left p i count d h e a k few =
+    let n = leaf_known f ops nts left p i d false h e a in
+    let t : nat_le most_nonterminals (length (known_to f ops nts left p i)) ≡ false = (let s : nat_le most_nonterminals count ≡ false = grind (arith, few) in ap (nat_le most_nonterminals) (sym k) ∙ s) in
+    record {
+      same = ap (λ x. past_most x (leaves_from f ops p (i + 1))) n ∙ sym (past_new_is f ops nts left p i d false h e a t);
+      counted = ap (λ c. c + 1) k ∙ sym (ap length n ∙ length-append (known_to f ops nts left p i) ((f (get_or p i d)).0.bytes ∷ []));
+    }
+
+pub past_full : {X : Type 0} (f : X → Word × ℕ) (ops nts : List (List ℕ)) (left : Word) (p : List X) (i count : ℕ) (d : X) (whole : Option ℕ) → i < length p
+    → (eqb (f (get_or p i d)).1 0 && not (is_among ops (f (get_or p i d)).0.bytes)) ≡ true → is_among (known_to f ops nts left p i) (f (get_or p i d)).0.bytes ≡ false
+    → count ≡ length (known_to f ops nts left p i) → most_nonterminals ≤ count → past_most (known_to f ops nts left p i) (leaves_from f ops p i) ≡ whole → Some (f (get_or p i d)).0.at ≡ whole
+past_full f ops nts left p i count d whole h e a k many s =
+    let t : nat_le most_nonterminals (length (known_to f ops nts left p i)) ≡ true = (let s : nat_le most_nonterminals count ≡ true = grind (arith, many) in ap (nat_le most_nonterminals) (sym k) ∙ s) in
+    sym (past_new_is f ops nts left p i d true h e a t) ∙ s
+
+pub from_not_false : (b : Bool) → not b ≡ false → b ≡ true
+from_not_false true h = refl
+from_not_false false h = absurd (cc)
+
+pub from_not_true : (b : Bool) → not b ≡ true → b ≡ false
+from_not_true false h = refl
+from_not_true true h = absurd (cc)
