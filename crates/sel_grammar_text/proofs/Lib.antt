@@ -13,7 +13,9 @@ pub mod Deciding
 pub mod PlaceSteps
 pub mod Bordering
 pub mod Depths
+pub mod Tails
 pub mod Walking
+pub mod SomeAnswer
 pub mod Templates
 pub mod Printed
 pub mod Built

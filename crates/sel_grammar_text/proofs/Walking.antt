@@ -11,6 +11,8 @@ use Rattle.sel_grammar_text.specs.FormDecision.{decided_fault, accepted_fault, j
 use Rattle.sel_grammar_text.specs.ItemFaults.{check_all}
 use Rattle.sel_grammar_text.specs.GrammarText.{HasFault, IsSoundUpTo, HasFirstFault, at_token}
 use Rattle.sel_grammar_text.specs.Machine.{step, run, go, begin, is_border, wants_cost, is_name}
+use Rattle.std.specs.List.{AllByRecursion}
+use Rattle.sel_grammar_text.specs.ItemNumbers.{HasExternal}
 use Rattle.sel_grammar_text.specs.Extents.{StandsAtItem, HasExtent}
 use Rattle.sel_grammar_text.specs.declared.fault.Fault.{Fault}
 use Rattle.sel_grammar_text.specs.declared.scan.Extent.{Extent}
@@ -21,6 +23,7 @@ use Rattle.sel_grammar_text.proofs.FormComplete.{complete, goes_on, stops}
 use Rattle.sel_grammar_text.proofs.Steps.{Reached, reached_next, first-snoc, after-snoc, tokens-snoc, cutting-snoc}
 use Rattle.sel_grammar_text.proofs.Decided.{decided, undecided}
 use Rattle.sel_grammar_text.proofs.Bordering.{Begun, begun_next, border_begun}
+use Rattle.sel_grammar_text.proofs.Tails.{Tailed, tailed_next, border_tailed}
 use Rattle.sel_grammar_text.proofs.Depths.{CameLast, step_came, step_end}
 
 -- Of a text in which an item begins behind n tokens, with the bytes `text`: `count` tokens further nothing is wrong, the
@@ -35,6 +38,7 @@ pub record Walked (bytes : List ℕ) (n : ℕ) (text : List ℕ) (s : State) (na
   pub rest_from : rest ≡ after count text
   pub names_are : names ≡ length (names_in (cutting k bytes).left)
   pub begun : Begun s (cutting k bytes).left
+  pub tailed : Tailed s (cutting k bytes).left
 
 abbrev pub Walk : ℕ → State → List ℕ → State → ℕ → List ℕ → ℕ → Type 0
 Walk all start text s names rest count = (bytes : List ℕ) (n : ℕ) → length bytes ≡ all → StandsAtItem bytes n start text → Walked bytes n text s names rest count
@@ -50,6 +54,7 @@ walk_start all start text b bytes n e h = record {
   rest_from = refl;
   names_are = sym (ap (λ l. length (names_in l)) h.nothing_left);
   begun = subst (Begun start) (sym h.nothing_left) (border_begun start b);
+  tailed = subst (Tailed start) (sym h.nothing_left) (border_tailed start b);
 }
 
 -- what is seen of the next token
@@ -73,7 +78,7 @@ more_is : (all : ℕ) (bytes rest from more : List ℕ) (t : Token) (at k : ℕ)
 more_is all bytes rest from more t at k e r = e.more_is ∙ ap behind r ∙ sym (after-snoc k bytes)
 
 -- one more token
-run_one : (ts : List Token) (t : Token) (s : State) → run ts begin ≡ Some s → run (ts ++ t ∷ []) begin ≡ step s t
+pub run_one : (ts : List Token) (t : Token) (s : State) → run ts begin ≡ Some s → run (ts ++ t ∷ []) begin ≡ step s t
 run_one ts t s h = run-append ts (t ∷ []) begin ∙ ap (go (run (t ∷ []))) h ∙ gone (step s t)
   where
     gone : (o : Option State) → go (run []) o ≡ o
@@ -200,6 +205,7 @@ module _ (all : ℕ) (start : State) (text : List ℕ) (s : State) (names : ℕ)
       let k = x.k in
       let spot_is : here k bytes ≡ at_spot t at = here_is all bytes rest from more t at k sees l x.rest_is in
       let next = begun_next s u t at (cutting k bytes).left x.begun e in
+      let number = tailed_next s u t at (cutting k bytes).left x.tailed e in
       let open_still : ends (cutting k bytes).left (here k bytes).token ≡ false = ap (λ y. ends (cutting k bytes).left y.token) spot_is ∙ next.0.1 b in
       let cut : cutting (suc k) bytes ≡ record { items = (cutting k bytes).items; left = (cutting k bytes).left ++ here k bytes ∷ [] } = cutting-snoc k bytes ∙ cut_on_false (cutting k bytes) (here k bytes) open_still in
       let left_is : (cutting (suc k) bytes).left ≡ (cutting k bytes).left ++ here k bytes ∷ [] = ap (λ y. y.left) cut in
@@ -215,6 +221,7 @@ module _ (all : ℕ) (start : State) (text : List ℕ) (s : State) (names : ℕ)
         rest_from = sees.more_is ∙ ap behind x.rest_from ∙ sym (after-snoc count text) ∙ ap (λ y. after y text) (sym c);
         names_are = m ∙ ap (λ y. y + cond (is_name t) 1 0) x.names_are ∙ sym (names_next (cutting k bytes).left t at) ∙ ap (λ y. length (names_in ((cutting k bytes).left ++ y ∷ []))) (sym spot_is) ∙ sym (ap (λ y. length (names_in y)) left_is);
         begun = subst (Begun u) (ap (λ y. (cutting k bytes).left ++ y ∷ []) (sym spot_is) ∙ sym left_is) (next.0.0 b);
+        tailed = subst (Tailed u) (ap (λ y. (cutting k bytes).left ++ y ∷ []) (sym spot_is) ∙ sym left_is) (number.0 b);
       }
 
   -- a token that ends the item, or the text
@@ -225,6 +232,7 @@ module _ (all : ℕ) (start : State) (text : List ℕ) (s : State) (names : ℕ)
       let k = x.k in
       let spot_is : here k bytes ≡ at_spot t at = here_is all bytes rest from more t at k sees l x.rest_is in
       let next = begun_next s u t at (cutting k bytes).left x.begun e in
+      let number = tailed_next s u t at (cutting k bytes).left x.tailed e in
       record {
         last = k;
         state = s;
@@ -235,6 +243,7 @@ module _ (all : ℕ) (start : State) (text : List ℕ) (s : State) (names : ℕ)
         items = x.items;
         spots = spots_next bytes n l h ∙ ap (λ y. first (length bytes) y text) (sym c);
         ends = subst (λ y. (ends (cutting k bytes).left y.token ≡ true) ⊎ (item_of ((cutting k bytes).left ++ y ∷ []) ≡ [])) (sym spot_is) (next.1 b);
+        number = subst (λ y. AllByRecursion HasExternal (item_of ((cutting k bytes).left ++ y ∷ []))) (sym spot_is) (number.1 b);
         place = p ∙ ap (λ y. y.at) (sym spot_is);
         behind = m ∙ more_is all bytes rest from more t at k sees x.rest_is;
       }

@@ -2,6 +2,8 @@
 use Rattle.std.specs.Prelude.{◌≡◌, ℕ, suc, ◌⊎◌, true, List, [], ◌∷◌, ◌++◌, length, Some}
 use Rattle.sel_grammar_text.specs.Spots.{first, after, tokens, first_spots, here}
 use Rattle.sel_grammar_text.specs.Cutting.{ends, item_of, cutting}
+use Rattle.std.specs.List.{AllByRecursion}
+use Rattle.sel_grammar_text.specs.ItemNumbers.{HasExternal}
 use Rattle.sel_grammar_text.specs.FormFaults.{HasFormFault}
 use Rattle.sel_grammar_text.specs.GrammarText.{IsSoundUpTo}
 use Rattle.sel_grammar_text.specs.Machine.{begin, run, step}
@@ -27,5 +29,6 @@ pub record HasExtent (bytes : List ℕ) (n : ℕ) (left : List ℕ) (e : Extent)
   pub items : (cutting last bytes).items ≡ (cutting n bytes).items
   pub spots : (cutting last bytes).left ++ (here last bytes ∷ []) ≡ first (length bytes) e.count left
   pub ends : (ends (cutting last bytes).left (here last bytes).token ≡ true) ⊎ (item_of ((cutting last bytes).left ++ (here last bytes ∷ [])) ≡ [])
+  pub number : AllByRecursion HasExternal (item_of ((cutting last bytes).left ++ (here last bytes ∷ [])))
   pub place : e.last ≡ (here last bytes).at
   pub behind : e.behind.now ≡ after (suc last) bytes

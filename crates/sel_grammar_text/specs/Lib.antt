@@ -24,4 +24,5 @@ pub mod Meaning
 pub mod GrammarText
 pub mod Tables
 pub mod Extents
+pub mod Reading
 pub mod Laws

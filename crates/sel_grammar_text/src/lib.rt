@@ -16,6 +16,7 @@ mod number;
 mod numbers;
 mod pattern;
 mod place;
+mod read;
 mod rule_checks;
 mod scan;
 mod signs;
