@@ -26,6 +26,11 @@ abbrev pub or_word : Option Word → Option Word → Option Word
 or_word None other = other
 or_word (Some w) other = Some w
 
+-- the number of the start symbol, which is the first rule's left name where none is declared
+abbrev pub start_number : List (List ℕ) → Option Word → ℕ
+start_number names None = 0
+start_number names (Some w) = number_of names w.bytes
+
 abbrev pub operator_names : List Operator → List (List ℕ)
 operator_names ops = map (λ o. o.name) ops
 
