@@ -27,3 +27,4 @@ pub mod Passes
 pub mod TableSteps
 pub mod RuleChecks
 pub mod FromTables
+pub mod ItemWords
