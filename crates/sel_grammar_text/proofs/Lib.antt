@@ -25,3 +25,6 @@ pub mod ItemLists
 pub mod NumberStays
 pub mod Passes
 pub mod TableSteps
+pub mod RuleChecks
+pub mod FromTables
+pub mod ItemWords
