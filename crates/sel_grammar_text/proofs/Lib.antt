@@ -28,3 +28,5 @@ pub mod TableSteps
 pub mod RuleChecks
 pub mod FromTables
 pub mod ItemWords
+pub mod Suffixes
+pub mod ReadSteps

@@ -27,7 +27,7 @@ drop_both : (n m : ℕ) (bytes : List ℕ) → drop m (drop n bytes) ≡ drop (n
 drop_both zero m bytes = ap (λ k. drop k bytes) (let e : m ≡ 0 + m = omega arith in e)
 drop_both (suc n) m [] = nil m ∙ sym (nil (suc n + m))
   where
-    nil : (k : ℕ) → drop k [] ≡ []
+    nil : (k : ℕ) → drop {A = ℕ} k [] ≡ []
     nil zero = refl
     nil (suc k) = refl
 drop_both (suc n) m (b ∷ bytes) = drop_both n m bytes ∙ ap (λ k. drop k (b ∷ bytes)) (let e : suc (n + m) ≡ suc n + m = omega arith in e)

@@ -247,7 +247,10 @@ module _ (all : ℕ) (start : State) (text : List ℕ) (s : State) (names : ℕ)
         well_formed = well_formed d bytes n l h;
         items = x.items;
         spots = spots_next bytes n l h ∙ ap (λ y. first (length bytes) y text) (sym c);
-        ends = subst (λ y. (ends (cutting k bytes).left y.token ≡ true) ⊎ (item_of ((cutting k bytes).left ++ y ∷ []) ≡ [])) (sym spot_is) (next.1 b);
+        ends = elim (next.1 b) [
+          | inl y ↦ inl (subst (λ z. ends (cutting k bytes).left z.token ≡ true) (sym spot_is) y)
+          | inr y ↦ inr (subst (λ z. item_of ((cutting k bytes).left ++ z ∷ []) ≡ []) (sym spot_is) y.0, s' ∙ y.1)
+        ];
         number = subst (λ y. AllByRecursion HasExternal (item_of ((cutting k bytes).left ++ y ∷ []))) (sym spot_is) (number.1 b).number;
         no_rule = λ z. subst (λ y. rules (item_of ((cutting k bytes).left ++ y ∷ [])) ≡ []) (sym spot_is) ((number.1 b).no_rule (subst (λ y. is_declaring y ≡ true) s' z));
         order = λ before z. subst (λ y. AllByRecursion (StandsRight before) (item_of ((cutting k bytes).left ++ y ∷ []))) (sym spot_is) ((number.1 b).order before (λ v. z (subst (λ y. is_declaring y ≡ true) (sym s') v)));

@@ -12,6 +12,7 @@ use Rattle.sel_grammar_text.specs.GrammarText.{IsSoundUpTo}
 use Rattle.sel_grammar_text.specs.Machine.{begin, run, step, is_declaring}
 use Rattle.sel_grammar_text.specs.declared.fault.Fault.{Fault}
 use Rattle.sel_grammar_text.specs.declared.form.State.{State}
+use Rattle.sel_grammar_text.specs.declared.form.State.TheVariants.{Ended}
 use Rattle.sel_grammar_text.specs.declared.scan.Extent.{Extent}
 
 -- n tokens of the text are whole items without a fault, the state behind them is s, and this is left of the text
@@ -31,7 +32,7 @@ pub record HasExtent (bytes : List ℕ) (n : ℕ) (left : List ℕ) (e : Extent)
   pub well_formed : (f : Fault) → HasFormFault bytes last f → ⊥
   pub items : (cutting last bytes).items ≡ (cutting n bytes).items
   pub spots : (cutting last bytes).left ++ (here last bytes ∷ []) ≡ first (length bytes) e.count left
-  pub ends : (ends (cutting last bytes).left (here last bytes).token ≡ true) ⊎ (item_of ((cutting last bytes).left ++ (here last bytes ∷ [])) ≡ [])
+  pub ends : (ends (cutting last bytes).left (here last bytes).token ≡ true) ⊎ ((item_of ((cutting last bytes).left ++ (here last bytes ∷ [])) ≡ []) × (e.state ≡ Ended))
   pub number : AllByRecursion HasExternal (item_of ((cutting last bytes).left ++ (here last bytes ∷ [])))
   pub no_rule : is_declaring e.state ≡ true → rules (item_of ((cutting last bytes).left ++ (here last bytes ∷ []))) ≡ []
   pub order : (before : List Item) → (is_declaring e.state ≡ true → rules before ≡ []) → AllByRecursion (StandsRight before) (item_of ((cutting last bytes).left ++ (here last bytes ∷ [])))

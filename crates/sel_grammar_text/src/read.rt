@@ -124,13 +124,24 @@ fn read_items(alloc: Global, bytes: &[u8]) -> Result<Grammar, Stop>
     }
 }
 
+/// The bytes before a place, or all.
+fn front(bytes: &[u8], at: usize) -> &[u8]
+    ensures front { result.now ≡ take at bytes.now }
+    ensures within { length result.now ≤ length bytes.now }
+{
+    if at < bytes.len() {
+        &bytes[..at]
+    } else {
+        bytes
+    }
+}
+
 /// The line and the column of a place in the text.
 fn place_of(bytes: &[u8], at: usize) -> Place
     requires { length bytes.now < 4294967295 }
     ensures { IsPlaceBehind (take at bytes.now) result }
 {
-    let before = if at < bytes.len() { &bytes[..at] } else { bytes };
-    advance(Place { line: 1, column: 1 }, before)
+    advance(Place { line: 1, column: 1 }, front(bytes, at))
 }
 
 /// The grammar that the text spells, or its first fault, by the rules of a grammar's text: declarations,
