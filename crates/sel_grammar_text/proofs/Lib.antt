@@ -28,3 +28,4 @@ pub mod TableSteps
 pub mod RuleChecks
 pub mod FromTables
 pub mod ItemWords
+pub mod Ready
