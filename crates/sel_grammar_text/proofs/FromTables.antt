@@ -55,7 +55,7 @@ pub grammar_made : (bytes : List ℕ) (items : List Item) (t : Tables) (start : 
 unfolding grammar_of
 grammar_made bytes items t start m s =
     let e : start ≡ start_of (nonterminals items) items =
-        s ∙ ap (λ n. start_number n (option_map view_word t.start)) m.nonterminals_are ∙ ap (start_number (nonterminals items)) m.start_is ∙ start_known (nonterminals items) items in
+    s ∙ ap (λ n. start_number n (option_map view_word t.start)) m.nonterminals_are ∙ ap (start_number (nonterminals items)) m.start_is ∙ start_known (nonterminals items) items in
     rw (e, m.operators_are, m.nonterminals_are, m.rules_are []) refl
 
 -- A word whose name is that of an earlier one needn't be looked at.
@@ -95,8 +95,10 @@ absent_uses names us (w ∷ words) = go (is_among (map (λ u. u.bytes) us) w.byt
     assoc : (o p q : Option ℕ) → or_place (or_place o p) q ≡ or_place o (or_place p q)
     assoc None p q = refl
     assoc (Some x) p q = refl
+
     split : first_absent names (w ∷ words) ≡ or_place (first_absent names (w ∷ [])) (first_absent names words)
     split = absent-append names (w ∷ []) words
+
     go : (b : Bool) → is_among (map (λ u. u.bytes) us) w.bytes ≡ b → ((vs : List Word) → first_absent names (with_uses vs words) ≡ or_place (first_absent names vs) (first_absent names words))
         → first_absent names (with_uses (cond b us (us ++ (w ∷ []))) words) ≡ or_place (first_absent names us) (first_absent names (w ∷ words))
     go true e k = k us ∙ ap (λ o. or_place o (first_absent names words)) (absent_again names us w e) ∙ assoc (first_absent names us) (first_absent names (w ∷ [])) (first_absent names words) ∙ ap (or_place (first_absent names us)) (sym split)

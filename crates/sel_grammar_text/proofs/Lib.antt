@@ -30,3 +30,4 @@ pub mod FromTables
 pub mod ItemWords
 pub mod Suffixes
 pub mod ReadSteps
+pub mod Ready

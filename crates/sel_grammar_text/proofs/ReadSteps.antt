@@ -123,22 +123,6 @@ module _ (bytes : List ℕ) (old : Tables) (from : Position) (e : Extent) (r : I
       or_none None = refl
       or_none (Some f) = refl
 
--- an item that passes its checks has room in the tables
-pub ready : (bytes : List ℕ) (before : List Item) (t : Tables) (item : Item) → Means bytes before t → check before item ≡ None → IsReadyFor t item
-ready bytes before t (RuleItem q) m k =
-    let p : Passes before (RuleItem q) = passes before (RuleItem q) k in
-    let ops : operator_names t.operators.items ≡ operators before = ap operator_names m.operators_are ∙ operator_names_of (uses (rules before)) before in
-    let few : length (with_words (nonterminals before) (nonterminal_words (operators before) q)) ≤ most_nonterminals =
-    few_words (nonterminals before) (nonterminal_words (operators before) q) p.too_many_nonterminals (subst (λ y. length y ≤ most_nonterminals) m.nonterminals_are m.few_nonterminals) in
-    record {
-      operators_fit = m.few_operators;
-      nonterminals_fit = subst (λ y. length (with_words y (nonterminal_words (operator_names t.operators.items) q)) ≤ most_nonterminals) (sym m.nonterminals_are)
-          (subst (λ y. length (with_words (nonterminals before) (nonterminal_words y q)) ≤ most_nonterminals) (sym ops) few);
-      kids = (kids_pass (operators before) (uses (rules before)) q.pattern p.arity).few;
-      costs = p.cost_large;
-    }
-ready bytes before t _ m k = tt
-
 -- a rule's left name is the item's first token
 placed_named : (bytes : List ℕ) (line column : ℕ) (name : Word) (more : List Spot) → line ≡ line_of bytes name.at → column ≡ column_of bytes name.at → AllByRecursion (IsPlaced bytes line column) (named_item name more)
 placed_named bytes line column name [] l c = tt

@@ -70,10 +70,12 @@ among_words names (w ∷ words) name = go (is_among names w.bytes) refl (λ ns. 
     known true y z h = refl
     known false true z h = absurd (let k : false ≡ true = h refl in cc)
     known false false z h = refl
+
     apart : (x y z : Bool) → ((x || (y || false)) || z) ≡ (x || (y || z))
     apart true y z = refl
     apart false true z = refl
     apart false false z = refl
+
     go : (b : Bool) → is_among names w.bytes ≡ b → ((ns : List (List ℕ)) → is_among (with_words ns words) name ≡ (is_among ns name || is_among (map (λ w. w.bytes) words) name))
         → is_among (with_words (cond b names (names ++ (w.bytes ∷ []))) words) name ≡ (is_among names name || (bytes_eq w.bytes name || is_among (map (λ w. w.bytes) words) name))
     go true e k = k names ∙ known (is_among names name) (bytes_eq w.bytes name) (is_among (map (λ w. w.bytes) words) name) (λ h. ap (is_among names) (sym ((bytes_eq-Decides w.bytes name).0 h)) ∙ e)

@@ -33,7 +33,10 @@ fn duplicate_term(tables: &Tables<'_>, item: &Item<'_>) -> Option<usize>
 {
     match item {
         Item::Entry(name, _) => {
-            place_if(is_operator(tables.operators.as_slice(), name.bytes), name.at)
+            place_if(
+                is_operator(tables.operators.as_slice(), name.bytes),
+                name.at,
+            )
         }
         _ => None,
     }
@@ -56,7 +59,10 @@ fn term_on_left(tables: &Tables<'_>, item: &Item<'_>) -> Option<usize>
 {
     match item {
         Item::Rule(rule) => {
-            place_if(is_operator(tables.operators.as_slice(), rule.left.bytes), rule.left.at)
+            place_if(
+                is_operator(tables.operators.as_slice(), rule.left.bytes),
+                rule.left.at,
+            )
         }
         _ => None,
     }
@@ -68,7 +74,11 @@ fn too_many_nonterminals(tables: &Tables<'_>, item: &Item<'_>) -> Option<usize>
 {
     match item {
         Item::Rule(rule) => {
-            past_most(tables.operators.as_slice(), tables.nonterminals.as_slice(), rule)
+            past_most(
+                tables.operators.as_slice(),
+                tables.nonterminals.as_slice(),
+                rule,
+            )
         }
         _ => None,
     }

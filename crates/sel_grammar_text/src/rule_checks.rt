@@ -167,7 +167,13 @@ pub fn past_most(
             continue;
         }
         let earlier = &pattern[..i];
-        if !is_new(operators, nonterminals, rule.left.bytes, earlier, named.word.bytes) {
+        if !is_new(
+            operators,
+            nonterminals,
+            rule.left.bytes,
+            earlier,
+            named.word.bytes,
+        ) {
             continue;
         }
         if count >= MOST_NONTERMINALS {

@@ -23,7 +23,8 @@ fn is_past_kid(piece: TemplatePiece, leaves: usize) -> bool
     ensures { (at : ℕ) (ps : List (ℕ × TemplatePiece)) → first_sign (checks.is_past_kid leaves) ((at, piece) ∷ ps) ≡ (if result then Some at else first_sign (checks.is_past_kid leaves) ps) }
 {
     match piece {
-        TemplatePiece::Sign(c) => c.is_ascii_digit() && leaves <= usize::from(c.saturating_sub(b'0')),
+        TemplatePiece::Sign(c) => c.is_ascii_digit()
+            && leaves <= usize::from(c.saturating_sub(b'0')),
         _ => false,
     }
 }

@@ -14,7 +14,7 @@ tokens-preserved c =
     let found = c.next_token-found.result in
     let s : Spot = record { token = view found.piece; at = c.args.all - length found.from.now } in
     let pushed : map view_spot c.push.new.self.items ≡ map view_spot c.tokens.spots.items ++ (s ∷ []) =
-        ap (map view_spot) c.in_ok-push.ensures.items ∙ map-append view_spot c.tokens.spots.items _ in
+    ap (map view_spot) c.in_ok-push.ensures.items ∙ map-append view_spot c.tokens.spots.items _ in
     let is : s ≡ spot c.args.all c.tokens.rest.now = rw (c.next_token-found.ensures.token, c.next_token-found.ensures.from) refl in
     let e = c.next_token-found.ensures in
     let ok : IsSpot s = record { within = omega (arith, e.behind_within, e.from_within, c.tokens.invariant.within, c.requires.text); digits = e.digits } in
