@@ -111,6 +111,10 @@ module _ (bytes : List ℕ) (old : Tables) (from : Position) (e : Extent) (r : I
       both_none : (xs ys : List Item) → rules xs ≡ [] → rules ys ≡ [] → rules (xs ++ ys) ≡ []
       both_none xs ys h k = rules-append xs ys ∙ ap (λ y. y ++ rules ys) h ∙ k
 
+  -- no item is taken
+  pub taken_none : [] ≡ item_of spots → IsTaken bytes old e
+  taken_none k = taken old (ap (check_all sofar) (sym k)) (subst (λ y. Means bytes (sofar ++ y) old) k (subst (λ y. Means bytes y old) (sym (append-nil sofar)) r.means))
+
   -- what is known of one item
   pub one_item : (item : Item) → item ∷ [] ≡ item_of spots → (check_all sofar (item_of spots) ≡ check sofar item) × HasExternal item × StandsRight sofar item
   one_item item k = (
