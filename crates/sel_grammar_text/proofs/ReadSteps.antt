@@ -30,10 +30,10 @@ use Rattle.sel_grammar_text.specs.declared.place.Place.{Place}
 use Rattle.sel_grammar_text.specs.declared.read.Position.{Position}
 use Rattle.sel_grammar_text.specs.declared.scan.Extent.{Extent}
 use Rattle.sel_grammar_text.specs.declared.tables.Tables.{Tables}
-use Rattle.sel_grammar_text.proofs.Steps.{Reached, reached_end, reached_end_fault, cutting-snoc}
+use Rattle.sel_grammar_text.proofs.Steps.{Reached, reached_start, reached_next, reached_end, reached_end_fault, cutting-snoc}
 use Rattle.sel_grammar_text.proofs.ItemLists.{rules-append, operator_names_of}
 use Rattle.sel_grammar_text.proofs.Passes.{Passes, passes, kids_pass, few_words}
-use Rattle.sel_grammar_text.proofs.Suffixes.{IsEnd, after_end, skip_end, end_within, fronts}
+use Rattle.sel_grammar_text.proofs.Suffixes.{IsEnd, after_end, skip_end, end_within, fronts, within}
 
 -- The end: the grammar that the items say, or the fault behind them.
 pub finished : (bytes : List ℕ) (t : Tables) (e : Extent) (x : IsTaken bytes t e) → e.state ≡ Ended → None ≡ end_fault (items_of x.last bytes) e.last
@@ -192,3 +192,56 @@ place_fits bytes left n p short e h =
     let c = column_small (take (length bytes - length left) bytes) p h in
     let t = length-take (length bytes - length left) bytes in
     (omega (arith, w, l, t, short), omega (arith, w, c, t, short))
+
+-- nothing is read yet
+pub reading_start : (bytes : List ℕ) (t : Tables) (p : Position) → Means bytes [] t → p.state ≡ begin → p.left.now ≡ bytes → p.place ≡ record { line = 1; column = 1 } → IsReading bytes t p
+unfolding cutting
+reading_start bytes t p m s l q =
+    let start = reached_start bytes in
+    record {
+      n = 0;
+      stands = record {
+        reached = ap Some (sym s);
+        sound = record { faultless = start.sound; open_still = start.no_text };
+        nothing_left = refl;
+        left_is = l;
+      };
+      border = ap is_border s;
+      open_still = λ e. let z : begin ≡ Ended = sym s ∙ e in cc;
+      means = m;
+      no_rules = λ _. refl;
+      place = subst (λ y. IsPlaceBehind (take (length bytes - length y) bytes) p.place) (sym l)
+          (subst (IsPlaceBehind (take (length bytes - length bytes) bytes)) (sym q)
+          (subst (λ k. IsPlaceBehind (take k bytes) (record { line = 1; column = 1 })) (let e : 0 ≡ length bytes - length bytes = omega arith in e) (record { line = refl; column = refl })));
+    }
+
+-- behind an item that isn't the last
+pub reading_next : (bytes : List ℕ) (t : Tables) (e : Extent) (p : Position) → IsTaken bytes t e → is_border e.state ≡ true → (e.state ≡ Ended → ⊥) → p.state ≡ e.state → p.left.now ≡ e.behind.now
+    → IsPlaceBehind (take (length bytes - length e.behind.now) bytes) p.place → IsReading bytes t p
+reading_next bytes t e p x b o s l q = record {
+  n = suc x.last;
+  stands = record {
+    reached = ran ∙ ap Some (sym s);
+    sound = record { faultless = (reached e.state ran).sound; open_still = (reached e.state ran).no_text };
+    nothing_left = x.nothing_left o;
+    left_is = l ∙ x.behind;
+  };
+  border = ap is_border s ∙ b;
+  open_still = λ z. o (sym s ∙ z);
+  means = x.means;
+  no_rules = λ d. x.no_rules (ap is_declaring (sym s) ∙ d);
+  place = subst (λ y. IsPlaceBehind (take (length bytes - length y) bytes) p.place) (sym l) q;
+}
+  where
+    r : Reached bytes (suc x.last) e.state
+    r = reached_next bytes x.last x.state e.state (record { run_so = x.reached; sound = x.sound.faultless; no_text = x.sound.open_still }) x.stepped o x.faultless
+
+    ran : run (tokens (first_spots (suc x.last) bytes)) begin ≡ Some e.state
+    ran = r.run_so
+
+    reached : (u : State) → run (tokens (first_spots (suc x.last) bytes)) begin ≡ Some u → Reached bytes (suc x.last) e.state
+    reached u h = r
+
+-- what is left behind an item
+pub behind_is : (bytes left : List ℕ) (n : ℕ) (t : Tables) (e : Extent) → left ≡ after n bytes → IsTaken bytes t e → length e.behind.now ≤ length left → IsEnd left e.behind.now
+behind_is bytes left n t e l x w = within bytes left e.behind.now (subst (IsEnd bytes) (sym l) (after_end n bytes)) (subst (IsEnd bytes) (sym x.behind) (after_end (suc x.last) bytes)) w

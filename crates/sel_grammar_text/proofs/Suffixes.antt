@@ -102,3 +102,13 @@ fronts bytes rest more h k =
     let a : rest ≡ drop n bytes = h.rest_is ∙ ap (λ x. drop x bytes) (gone_is bytes rest h) in
     let sum : n + m ≡ length bytes - length more = omega (arith, end_within bytes rest h, end_within rest more k) in
     ap (λ x. take n bytes ++ take m x) a ∙ sym (take-add n m bytes) ∙ ap (λ x. take x bytes) sum
+
+-- of two ends of some bytes the shorter is an end of the longer
+pub within : (bytes rest more : List ℕ) → IsEnd bytes rest → IsEnd bytes more → length more ≤ length rest → IsEnd rest more
+within bytes rest more h k w =
+    let less : h.gone + (k.gone - h.gone) ≡ k.gone = omega (arith, gone_is bytes rest h, gone_is bytes more k, w, end_within bytes rest h) in
+    record {
+      gone = k.gone - h.gone;
+      within = omega (arith, gone_is bytes rest h, gone_is bytes more k, w, end_within bytes rest h, h.within, k.within);
+      rest_is = k.rest_is ∙ ap (λ n. drop n bytes) (sym less) ∙ sym (drop_both h.gone (k.gone - h.gone) bytes) ∙ ap (drop (k.gone - h.gone)) (sym h.rest_is);
+    }
