@@ -1,5 +1,5 @@
 -- Laws of the definitions.
-use Rattle.std.specs.Prelude.{◌≡◌, ℕ, List, Some, None}
+use Rattle.std.specs.Prelude.{◌≡◌, ℕ, List, ◌⊎◌, Some, None}
 use Rattle.sel_grammar.specs.declared.grammar.Grammar.{Grammar}
 use Rattle.sel_grammar.specs.declared.refusal.GrammarFault.{GrammarFault}
 use Rattle.sel_grammar_text.specs.Tokens.{Token}
@@ -20,6 +20,10 @@ GrammarFaultIsOne = (bytes : List ℕ) (e f : GrammarFault) → IsGrammarFault b
 -- no text both spells a grammar and has a fault
 abbrev pub NotGrammarAndFault : Type 0
 NotGrammarAndFault = (bytes : List ℕ) (g : Grammar) (f : GrammarFault) → SpellsGrammar bytes g → IsGrammarFault bytes f → ⊥
+
+-- each text spells some grammar or has some fault
+abbrev pub SomeGrammarOrFault : Type 0
+SomeGrammarOrFault = (bytes : List ℕ) → ((g : Grammar) × SpellsGrammar bytes g) ⊎ ((f : GrammarFault) × IsGrammarFault bytes f)
 
 -- where there is a state behind the tokens, some text goes on with them
 abbrev pub StateGoesOn : Type 0
