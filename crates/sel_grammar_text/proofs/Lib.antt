@@ -29,3 +29,4 @@ pub mod RuleChecks
 pub mod FromTables
 pub mod ItemWords
 pub mod Ready
+pub mod Commas
