@@ -9,3 +9,9 @@ pub mod Templates
 pub mod Printed
 pub mod Built
 pub mod Examples
+pub mod PrintedSteps
+pub mod PrintedTokens
+pub mod PrintedCosts
+pub mod PrintedTemplates
+pub mod FormItems
+pub mod FormCuts

@@ -1,6 +1,6 @@
 -- The tokens of printed text.
 use Rattle.std.proofs.Math.Seq.{take-append_seam}
-use Rattle.std.proofs.Common.{◌≡◌, ℕ, suc, ◌+◌, List, [], ◌∷◌, ◌++◌, Option, Some, None, Bool, true, false, length, take, drop, refl, ap, ◌∙◌, arith, eqb, append_assoc, length-append}
+use Rattle.std.proofs.Common.{◌≡◌, ℕ, suc, ◌+◌, List, [], ◌∷◌, ◌++◌, Option, Some, None, Bool, true, false, length, take, drop, refl, ap, sym, ◌∙◌, subst, arith, eqb, append_assoc, length-append}
 use Rattle.std.specs.Prelude.{take_while, option_map}
 use Rattle.std.specs.List.{prefix_len, flat_map}
 use Rattle.std.specs.Char.{is_ascii_digit}
@@ -31,11 +31,11 @@ front p b bytes rest h s =
     let n : 1 + prefix_len p (bytes ++ rest) ≡ length (b ∷ bytes) = omega (arith, run_of p bytes rest h s) in
     ap (λ k. take k (b ∷ (bytes ++ rest))) n ∙ take-append_seam (b ∷ bytes) rest
 
-drop_past : (xs : List ℕ) (y : ℕ) (ys : List ℕ) → drop (length xs + 1) (xs ++ (y ∷ ys)) ≡ ys
+pub drop_past : (xs : List ℕ) (y : ℕ) (ys : List ℕ) → drop (length xs + 1) (xs ++ (y ∷ ys)) ≡ ys
 drop_past [] y ys = refl
 drop_past (x ∷ xs) y ys = let n : length (x ∷ xs) + 1 ≡ suc (length xs + 1) = omega arith in ap (λ k. drop k (x ∷ (xs ++ (y ∷ ys)))) n ∙ drop_past xs y ys
 
-taken : (p : ℕ → Bool) (bytes rest : List ℕ) → Each p bytes → Stops p rest → take_while p (bytes ++ rest) ≡ bytes
+pub taken : (p : ℕ → Bool) (bytes rest : List ℕ) → Each p bytes → Stops p rest → take_while p (bytes ++ rest) ≡ bytes
 taken p bytes rest h s = ap (λ n. take n (bytes ++ rest)) (run_of p bytes rest h s) ∙ take-append_seam bytes rest
 
 -- A printed name, whatever follows that doesn't go on with it.
@@ -64,7 +64,7 @@ both_more a b c (Some n) e = ap Some (omega arith)
 plain_passes : (b : ℕ) → eqb b 34 ≡ false → eqb b 10 ≡ false → eqb b 92 ≡ false → Passes (b ∷ [])
 plain_passes b h k j rest = rw (h, k, j) (one_more (inside_len false rest))
 
-byte_passes : (b : ℕ) → Passes (printed_byte b)
+pub byte_passes : (b : ℕ) → Passes (printed_byte b)
 byte_passes b =
     by_test b 10 _ _ Passes (λ e rest. two_more (inside_len false rest)) (λ n.
     by_test b 9 _ _ Passes (λ e rest. two_more (inside_len false rest)) (λ _.
@@ -77,7 +77,7 @@ passes-append x y h k rest =
     ap (inside_len false) (append_assoc x y rest) ∙ h (y ++ rest) ∙ ap (option_map (λ n. length x + n)) (k rest)
     ∙ both_more (length x) (length y) (length (x ++ y)) (inside_len false rest) (length-append x y)
 
-none_passes : Passes []
+pub none_passes : Passes []
 none_passes rest = same (inside_len false rest)
   where
     same : (o : Option ℕ) → o ≡ option_map (λ n. 0 + n) o
@@ -88,7 +88,7 @@ text_passes : (bytes : List ℕ) → Passes (flat_map printed_byte bytes)
 text_passes [] = none_passes
 text_passes (b ∷ bytes) = passes-append (printed_byte b) (flat_map printed_byte bytes) (byte_passes b) (text_passes bytes)
 
-sign_passes : (c : ℕ) → eqb c 34 ≡ false → eqb c 10 ≡ false → eqb c 92 ≡ false → Passes (37 ∷ c ∷ [])
+pub sign_passes : (c : ℕ) → eqb c 34 ≡ false → eqb c 10 ≡ false → eqb c 92 ≡ false → Passes (37 ∷ c ∷ [])
 sign_passes c h k j rest = rw (h, k, j) (two_more (inside_len false rest))
 
 -- A printed template ends at the closing quote behind it.

@@ -6,5 +6,8 @@ mod form;
 pub mod laws;
 mod number;
 mod pattern;
+mod print;
 mod template;
 mod tokens;
+
+pub use print::print_grammar;
