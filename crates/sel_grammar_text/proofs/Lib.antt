@@ -15,3 +15,10 @@ pub mod PrintedCosts
 pub mod PrintedTemplates
 pub mod FormItems
 pub mod FormCuts
+pub mod WholeTexts
+pub mod PatternTexts
+pub mod SameChecks
+pub mod PrintedTails
+pub mod SourceNames
+pub mod RulesAgain
+pub mod RoundTrip

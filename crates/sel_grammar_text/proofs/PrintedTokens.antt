@@ -149,9 +149,9 @@ pub cuts_percents : (more : List ℕ) (t : Token) (ts : List Token) (rest : List
 cuts_percents more t ts rest k = cuts_token (codes "%%\n" ++ more) (10 ∷ more) Percents (t ∷ ts) rest refl refl refl (over_blank 10 more t ts rest refl k)
 
 -- a rule up to its tail
-pub cuts_rule : (left root : List ℕ) (kids : Patterns) (tail more : List ℕ) (ts : List Token) (rest : List ℕ) → IsName left → IsName root → HaveNames kids → Stops is_name_byte tail → CutsInto tail ts rest
+pub cuts_rule : (left root : List ℕ) (kids : Patterns) (tail : List ℕ) (ts : List Token) (rest : List ℕ) → IsName left → IsName root → HaveNames kids → Stops is_name_byte tail → CutsInto tail ts rest
     → CutsInto (left ++ (codes ": " ++ ((root ++ patterns_text below kids) ++ tail))) (Name left ∷ Colon ∷ Name root ∷ (pattern_tokens below kids ++ ts)) rest
-cuts_rule left root kids tail more ts rest l r ks s k =
+cuts_rule left root kids tail ts rest l r ks s k =
     cuts_name left _ _ rest l refl (cuts_mark 58 Colon _ _ rest refl refl refl refl refl refl refl refl
     (over_blank 32 ((root ++ patterns_text below kids) ++ tail) (Name root) (pattern_tokens below kids ++ ts) rest refl
     (simp append_assoc (cuts_name root (patterns_text below kids ++ tail) (pattern_tokens below kids ++ ts) rest r (stops_patterns below kids tail s) (cuts_patterns below kids tail ts rest ks s k)))))

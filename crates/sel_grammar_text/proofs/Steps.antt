@@ -14,7 +14,7 @@ use Rattle.sel_grammar_text.specs.Meaning.{grammar_of}
 use Rattle.sel_grammar_text.proofs.FormSound.{run-append, is_text}
 use Rattle.sel_grammar_text.proofs.FormComplete.{complete, goes_on, stops}
 
-first-snoc : (all n : ℕ) (bytes : List ℕ) → first all (suc n) bytes ≡ first all n bytes ++ (spot all (after n bytes) ∷ [])
+pub first-snoc : (all n : ℕ) (bytes : List ℕ) → first all (suc n) bytes ≡ first all n bytes ++ (spot all (after n bytes) ∷ [])
 first-snoc all zero bytes = refl
 first-snoc all (suc n) bytes = ap (λ ts. spot all bytes ∷ ts) (first-snoc all n (behind bytes))
 

@@ -3,6 +3,7 @@ use Rattle.std.specs.Prelude.{◌≡◌, ℕ, List, Some, None}
 use Rattle.sel_grammar.specs.declared.grammar.Grammar.{Grammar}
 use Rattle.sel_grammar.specs.declared.refusal.GrammarFault.{GrammarFault}
 use Rattle.sel_grammar_text.specs.Tokens.{Token}
+use Rattle.sel_grammar_text.specs.PrintedGrammar.{printed, SpellsAgain}
 use Rattle.sel_grammar_text.specs.Form.{IsText, GoesOn}
 use Rattle.sel_grammar_text.specs.Machine.{run, begin}
 use Rattle.sel_grammar_text.specs.GrammarText.{SpellsGrammar, IsGrammarFault}
@@ -35,3 +36,7 @@ EndIsText = (ts : List Token) → run ts begin ≡ Some Ended → IsText ts
 
 abbrev pub TextIsEnd : Type 0
 TextIsEnd = (ts : List Token) → IsText ts → run ts begin ≡ Some Ended
+
+-- what is printed of a grammar that a text spells is a text of the same grammar, but for the places of rules
+abbrev pub PrintedIsRead : Type 0
+PrintedIsRead = (source : List ℕ) (g : Grammar) → SpellsGrammar source g → SpellsAgain (printed g) g

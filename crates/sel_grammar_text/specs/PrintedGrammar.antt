@@ -7,6 +7,7 @@ use Rattle.sel_grammar.specs.declared.grammar.Grammar.{Grammar}
 use Rattle.sel_grammar.specs.declared.grammar.Operator.{Operator}
 use Rattle.sel_grammar.specs.declared.grammar.Pattern.{Pattern, Leaf, Nullary, Unary', Binary', end_of-Pattern, more_of-Pattern}
 use Rattle.sel_grammar.specs.declared.grammar.Rule.{Rule}
+use Rattle.sel_grammar_text.specs.GrammarText.{SpellsGrammar}
 use Rattle.sel_grammar_text.specs.Printing.{printed_template}
 
 -- the name of that number, and none beyond the last
@@ -63,3 +64,9 @@ pub record IsSameButPlaces (g h : Grammar) : Type 0 where
   pub operators : g.operators ≡ h.operators
   pub nonterminals : g.nonterminals ≡ h.nonterminals
   pub rules : map without_place g.rules ≡ map without_place h.rules
+
+-- the text spells a grammar that is this one but for the places of rules
+pub record SpellsAgain (text : List ℕ) (g : Grammar) : Type 0 where
+  pub read : Grammar
+  pub spells : SpellsGrammar text read
+  pub same : IsSameButPlaces g read

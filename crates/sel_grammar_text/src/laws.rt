@@ -1,5 +1,5 @@
 //! Laws of the definitions. The functions do nothing: their contracts say them.
-ghost use Rattle.sel_grammar_text.specs.Laws.{GrammarIsOne, GrammarFaultIsOne, NotGrammarAndFault, StateGoesOn, NoStateStops, EndIsText, TextIsEnd};
+ghost use Rattle.sel_grammar_text.specs.Laws.{GrammarIsOne, GrammarFaultIsOne, NotGrammarAndFault, StateGoesOn, NoStateStops, EndIsText, TextIsEnd, PrintedIsRead};
 
 /// A text spells at most one grammar, and has at most one fault. No text has both.
 pub fn grammar_or_fault()
@@ -15,4 +15,10 @@ pub fn states_follow_the_form()
     ensures stops { NoStateStops }
     ensures ended { EndIsText }
     ensures whole { TextIsEnd }
+{}
+
+/// What is printed of a grammar that a text spells is a text of the same grammar, but for the places
+/// of its rules.
+pub fn printed_is_read()
+    ensures { PrintedIsRead }
 {}

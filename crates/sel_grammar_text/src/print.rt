@@ -5,6 +5,7 @@ ghost use Rattle.std.specs.Fmt.{signed_decimal};
 ghost use Rattle.std.specs.List.{flat_map};
 ghost use Rattle.sel_grammar.specs.declared.grammar.Operator.{Operator};
 ghost use Rattle.sel_grammar_text.specs.Printing.{printed_byte, printed_part, printed_template};
+ghost use Rattle.sel_grammar_text.specs.GrammarText.{SpellsGrammar};
 ghost use Rattle.sel_grammar_text.specs.PrintedGrammar as spec;
 
 use itoa::Buffer;
@@ -215,7 +216,8 @@ fn put_rules(text: &mut Vec<u8>, grammar: &Grammar) -> Result<(), NoMemory>
 /// The grammar's text: the start symbol, the operators with their numbers, `%%`, and a rule on each
 /// line. A rule's place isn't in it, and neither is the second number of a cost.
 pub fn print_grammar(alloc: Global, grammar: &Grammar) -> Result<List<u8>, NoMemory>
-    ensures { IfOk result (λ text. text ≡ spec.printed grammar.now) }
+    ensures exact { IfOk result (λ text. text ≡ spec.printed grammar.now) }
+    ensures again { IfOk result (λ text. (source : List ℕ) → SpellsGrammar source grammar.now → spec.SpellsAgain text grammar.now) }
 {
     let mut text = Vec::new(alloc);
     put(&mut text, b"%start ")?;
