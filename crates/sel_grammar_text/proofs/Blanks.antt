@@ -61,3 +61,15 @@ pub pair_short : (x y : ℕ) (bytes : List ℕ) → length bytes < 2 → behind_
 pair_short x y [] h = refl
 pair_short x y (b ∷ []) h = refl
 pair_short x y (b ∷ c ∷ bytes) h = absurd (omega arith)
+
+skip_short_to : (n : ℕ) (bytes : List ℕ) → length (skip_at_most n bytes) ≤ length bytes
+skip_short_to zero bytes = omega arith
+skip_short_to (suc n) bytes = go (behind_blank bytes) refl (skip_short_to n)
+  where
+    go : (o : Option (List ℕ)) → behind_blank bytes ≡ o → ((rest : List ℕ) → length (skip_at_most n rest) ≤ length rest)
+        → length (elim o as (λ _. List ℕ) [ None ↦ bytes | Some rest ↦ skip_at_most n rest ]) ≤ length bytes
+    go None e ih = omega arith
+    go (Some rest) e ih = omega (arith, ih rest, shorter bytes rest e)
+
+pub skip_short : (bytes : List ℕ) → length (skip bytes) ≤ length bytes
+skip_short bytes = skip_short_to (length bytes) bytes

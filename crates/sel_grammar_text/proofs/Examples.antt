@@ -4,7 +4,7 @@ use Rattle.std.specs.Prelude.{codes}
 use Rattle.sel_grammar.specs.Limits as limits
 use Rattle.sel_grammar.specs.declared.grammar.Pattern.{Leaf, Nullary, Binary}
 use Rattle.sel_grammar.specs.declared.grammar.Part.TheVariants.{Attribute}
-use Rattle.sel_grammar_text.specs.CostText.{wrong_cost}
+use Rattle.sel_grammar_text.specs.CostText.{cost_in, wrong_cost}
 use Rattle.sel_grammar_text.specs.Spots.{first_spots, tokens, here}
 use Rattle.sel_grammar_text.specs.Cutting.{cutting}
 use Rattle.sel_grammar_text.specs.Faults as faults
@@ -32,7 +32,7 @@ abbrev fault : ℕ → ℕ → Option Fault
 fault kind column = Some (faults.fault kind (20 + column))
 
 cost_large : found 15 (codes "a: X " ++ quoted [] ++ codes " 65536") ≡ fault limits.cost_large 9
-unfolding cutting check
+unfolding cutting check cost_in
 cost_large = refl
 
 term_on_left : found 15 (codes "X: a " ++ quoted []) ≡ fault limits.term_on_left 1
@@ -68,14 +68,15 @@ unfolding cutting check
 hash = refl
 
 range_place : found 18 (codes "a: U(a) " ++ quoted [] ++ codes " range(a,0,1)") ≡ fault limits.range_place 12
-unfolding cutting check
+unfolding cutting check cost_in
 range_place = refl
 
 none_found : found 15 (codes "a: X " ++ quoted [] ++ codes " range ( a , -1 , 2 ) + 7") ≡ None
-unfolding cutting check
+unfolding cutting check cost_in
 none_found = refl
 
 cost_form : wrong_cost 0 (codes " c+1") ≡ Some 1
+unfolding cost_in
 cost_form = refl
 
 stray : run (tokens (first_spots 13 (head ++ (codes "a X " ++ quoted [])))) begin ≡ None
@@ -113,5 +114,5 @@ both_says : grammar_of both (cutting 28 both).items ≡ record {
   rules = record { left = 0; pattern = Binary 0 (Leaf 0) (Leaf 0); template = record { parts = [] }; cost = record { first = 1; second = 0 }; range = None; external = Some 7; line = 4; column = 1 }
       ∷ record { left = 0; pattern = Nullary 1; template = record { parts = Attribute ∷ [] }; cost = record { first = 0; second = 0 }; range = None; external = None; line = 5; column = 1 } ∷ [];
 }
-unfolding cutting grammar_of
+unfolding cutting grammar_of cost_in
 both_says = refl

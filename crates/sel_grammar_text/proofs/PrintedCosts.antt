@@ -11,7 +11,7 @@ use Rattle.sel_base.specs.declared.range.Range.{Range}
 use Rattle.sel_grammar.specs.Names.{is_letter, is_name_byte}
 use Rattle.sel_grammar_text.specs.Blanks.{behind_blank, skip}
 use Rattle.sel_grammar_text.specs.Items.{Word, word, CostText, NoCost, Amount, Ranged}
-use Rattle.sel_grammar_text.specs.CostText.{CostToken, CostName, Digits, Negative, Single, cost_width, cost_token, cost_tokens_to, begins_with_digit, cost_of, cost_in, wrong_cost}
+use Rattle.sel_grammar_text.specs.CostText.{CostToken, CostName, Digits, Negative, Single, cost_width, cost_token, cost_tokens_to, begins_with_digit, read_cost, cost_in, wrong_cost}
 use Rattle.sel_grammar.specs.Limits.{greatest_cost}
 use Rattle.sel_grammar_text.specs.Checks.{begins_with_minus, large_bound, large_cost, place_if}
 use Rattle.sel_grammar_text.specs.Meaning.{bound_of, number_or_0}
@@ -147,11 +147,12 @@ addend_word p zero = None
 addend_word p (suc n) = Some (word p (decimal (suc n)))
 
 pub amount_in : (at cost : ℕ) → cost < 2 ^ 64 → (p : ℕ) × (cost_in at (32 ∷ decimal cost) ≡ Some (Amount (word p (decimal cost))))
+unfolding cost_in
 amount_in at cost h =
     let c : Costs (32 ∷ decimal cost) (Digits (decimal cost) ∷ []) = costs_space (decimal cost) _
     (subst (λ x. Costs x (Digits (decimal cost) ∷ [])) (append-nil (decimal cost)) (costs_digits (decimal cost) [] [] (decimal_number cost h) tt (costs_none [] refl))) in
     let t = tokens_placed (32 ∷ decimal cost) (Digits (decimal cost) ∷ []) (length (32 ∷ decimal cost)) at c (omega arith) in
-    (first_of t.0, ap cost_of t.1)
+    (first_of t.0, ap read_cost t.1)
 
 abbrev fifth : List ℕ → ℕ
 fifth ps = first_of (rest_of (rest_of (rest_of (rest_of ps))))
@@ -162,7 +163,7 @@ seventh ps = first_of (rest_of (rest_of (rest_of (rest_of (rest_of (rest_of ps))
 abbrev tenth : List ℕ → ℕ
 tenth ps = first_of (rest_of (rest_of (rest_of (rest_of (rest_of (rest_of (rest_of (rest_of (rest_of ps)))))))))
 
-range_read : (ps : List ℕ) (lo hi : ℤ) (cost : ℕ) → cost_of (placed ps (range_tokens (record { lo = lo; hi = hi }) cost))
+range_read : (ps : List ℕ) (lo hi : ℤ) (cost : ℕ) → read_cost (placed ps (range_tokens (record { lo = lo; hi = hi }) cost))
     ≡ Some (Ranged (first_of ps) (word (fifth ps) (signed_decimal lo)) (word (seventh ps) (signed_decimal hi)) (addend_word (tenth ps) cost))
 range_read ps (pos l) (pos h) zero = refl
 range_read ps (pos l) (negsuc h) zero = refl
@@ -184,10 +185,11 @@ enough_bytes range (suc n) =
 
 pub range_in : (at cost : ℕ) (range : Range) → cost < 2 ^ 64 → IsBound range.lo → IsBound range.hi
     → (p q s t : ℕ) × (cost_in at (32 ∷ printed_cost cost (Some range)) ≡ Some (Ranged p (word q (signed_decimal range.lo)) (word s (signed_decimal range.hi)) (addend_word t cost)))
+unfolding cost_in
 range_in at cost range h lo hi =
     let bytes = 32 ∷ printed_cost cost (Some range) in
     let t = tokens_placed bytes (range_tokens range cost) (length bytes) at (costs_space (printed_cost cost (Some range)) _ (costs_range range cost h lo hi)) (enough_bytes range cost) in
-    (first_of t.0, fifth t.0, seventh t.0, tenth t.0, ap cost_of t.1 ∙ range_read t.0 range.lo range.hi cost)
+    (first_of t.0, fifth t.0, seventh t.0, tenth t.0, ap read_cost t.1 ∙ range_read t.0 range.lo range.hi cost)
 
 -- Values.
 

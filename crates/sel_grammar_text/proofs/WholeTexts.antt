@@ -14,7 +14,7 @@ use Rattle.sel_grammar_text.specs.CostText.{wrong_cost}
 use Rattle.sel_grammar_text.specs.Spots.{Spot, spot, first, after, behind, tokens, first_spots, here}
 use Rattle.sel_grammar_text.specs.Cutting.{ends, item_of, Cutting, with_spot, cut_on, cutting}
 use Rattle.sel_grammar_text.specs.Faults.{fault, fault_if, fault_at, or_fault}
-use Rattle.sel_grammar_text.specs.FormFaults.{FormFault, unclosed_quote, open_code, stray, name_too_many, bad_string, cost_line, cost_list, bad_byte, pattern_names, list_goes_on, is_cost_list, ends_integer, HasFormFault}
+use Rattle.sel_grammar_text.specs.FormFaults.{FormFault, unclosed_quote, open_code, stray, name_too_many, bad_string, cost_line, cost_list, bad_byte, pattern_names, is_integer, is_comma, token_in, behind_further, closes, is_cost_list, ends_integer, HasFormFault}
 use Rattle.sel_grammar_text.specs.FormDecision.{accepted_fault, judged, stray_place, open_string_fault, is_unclosed, decided_fault}
 use Rattle.sel_grammar_text.specs.ItemFaults.{check, check_all}
 use Rattle.sel_grammar_text.specs.GrammarText.{HasFault, IsSoundUpTo, IsWhole}
@@ -216,23 +216,20 @@ no_faults bytes n w k h f x = elim (eq-or-lt_of_le h) [
 
 -- To a whole text without a fault.
 
+abbrev listed : Option (List ℕ) → Bool
+listed o = elim o as (λ _. Bool) [ None ↦ false | Some rest ↦ closes rest ]
+
 no_list : (t : Token) (more : List ℕ) → token_of (skip more) ≡ t → ((d : List ℕ) → t ≡ Integer d → ⊥) → is_cost_list more ≡ false
-no_list t more e h = ap (λ u. elim u as (λ _. Bool) [ Integer d ↦ list_goes_on (length more) 0 (behind more) | _ ↦ false ]) e ∙ not_integer t h
+no_list t more e h = ap (λ u. is_integer u && listed (behind_further (behind more))) e ∙ not_integer t h
   where
-    not_integer : (t : Token) → ((d : List ℕ) → t ≡ Integer d → ⊥) → (elim t as (λ _. Bool) [ Integer d ↦ list_goes_on (length more) 0 (behind more) | _ ↦ false ]) ≡ false
+    not_integer : (t : Token) → ((d : List ℕ) → t ≡ Integer d → ⊥) → (is_integer t && listed (behind_further (behind more))) ≡ false
     not_integer (Integer d) h = absurd (h d refl)
     not_integer t h = refl
 
 closed_list : (d : List ℕ) (more : List ℕ) → token_of (skip more) ≡ Integer d → token_of (skip (behind more)) ≡ Close → is_cost_list more ≡ false
-closed_list d more e h = ap (λ u. elim u as (λ _. Bool) [ Integer d ↦ list_goes_on (length more) 0 (behind more) | _ ↦ false ]) e ∙ no_comma (length more)
-  where
-    no_comma : (n : ℕ) → list_goes_on n 0 (behind more) ≡ false
-    no_comma zero = refl
-    no_comma (suc n) = ap (λ u. elim u as (λ _. Bool) [
-      | Comma ↦ elim (token_of (skip (behind (behind more)))) as (λ _. Bool) [ Integer d ↦ list_goes_on n (0 + 1) (behind (behind (behind more))) | _ ↦ false ]
-      | Close ↦ nat_lt 0 0
-      | _ ↦ false
-    ]) h
+closed_list d more e h =
+    ap (λ u. is_integer u && listed (behind_further (behind more))) e
+    ∙ ap (λ u. listed (cond (is_comma u && is_integer (token_in (behind (behind more)))) (Some (behind (behind (behind more)))) None)) h
 
 -- what an opening parenthesis leads to
 opens : (s u : State) → step s Open ≡ Some u → ((d : ℕ) × (u ≡ Wanted d)) ⊎ (u ≡ Pricing)

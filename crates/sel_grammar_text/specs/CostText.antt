@@ -40,29 +40,70 @@ cost_tokens_to (suc n) at bytes = elim (skip bytes) [
       ∷ cost_tokens_to n (at + (length bytes - length (b ∷ more)) + cost_width (cost_token b more)) (drop (cost_width (cost_token b more)) (b ∷ more))
 ]
 
--- a bound of a range
-abbrev pub bound : ℕ × CostToken → Option Word
-bound (at, Digits bytes) = Some (word at bytes)
-bound (at, Negative bytes) = Some (word at bytes)
-bound (at, _) = None
+-- the tokens of the bytes, which begin at a place
+abbrev pub cost_tokens : ℕ → List ℕ → List (ℕ × CostToken)
+cost_tokens at bytes = cost_tokens_to (length bytes) at bytes
 
-abbrev pub ranged : ℕ → Option Word → Option Word → Option Word → Option CostText
-ranged at (Some lo) (Some hi) addend = Some (Ranged at lo hi addend)
-ranged at _ _ addend = None
+abbrev pub is_single : ℕ → CostToken → Bool
+is_single b (Single c) = c == b
+is_single b _ = false
 
--- the cost that the tokens are, where they are one
-abbrev pub cost_of : List (ℕ × CostToken) → Option CostText
-cost_of [] = Some NoCost
-cost_of ((at, Digits bytes) ∷ []) = Some (Amount (word at bytes))
-cost_of ((at, CostName r) ∷ (_, Single o) ∷ (_, CostName a) ∷ (_, Single c) ∷ lo ∷ (_, Single d) ∷ hi ∷ (_, Single e) ∷ []) =
-    if bytes_eq r (codes "range") && (o == 40) && bytes_eq a (codes "a") && (c == 44) && (d == 44) && (e == 41) then ranged at (bound lo) (bound hi) None else None
-cost_of ((at, CostName r) ∷ (_, Single o) ∷ (_, CostName a) ∷ (_, Single c) ∷ lo ∷ (_, Single d) ∷ hi ∷ (_, Single e) ∷ (_, Single p) ∷ (q, Digits bytes) ∷ []) =
-    if bytes_eq r (codes "range") && (o == 40) && bytes_eq a (codes "a") && (c == 44) && (d == 44) && (e == 41) && (p == 43) then ranged at (bound lo) (bound hi) (Some (word q bytes)) else None
-cost_of _ = None
+abbrev pub is_word : List ℕ → CostToken → Bool
+is_word name (CostName bytes) = bytes_eq bytes name
+is_word name _ = false
+
+-- the tokens behind one that passes
+abbrev pub behind_token : (CostToken → Bool) → List (ℕ × CostToken) → Option (List (ℕ × CostToken))
+behind_token p [] = None
+behind_token p (t ∷ ts) = if p t.1 then Some ts else None
+
+-- the second step, on what the first one gave
+abbrev pub and_then : {X Y : Type 0} → Option X → (X → Option Y) → Option Y
+and_then None f = None
+and_then (Some x) f = f x
+
+-- digits, with or without a sign
+abbrev pub bound_in : ℕ × CostToken → Option Word
+bound_in (at, Digits bytes) = Some (word at bytes)
+bound_in (at, Negative bytes) = Some (word at bytes)
+bound_in (at, _) = None
+
+-- a bound of a range, and the tokens behind it
+abbrev pub read_bound : List (ℕ × CostToken) → Option (Word × List (ℕ × CostToken))
+read_bound [] = None
+read_bound (t ∷ ts) = and_then (bound_in t) (λ w. Some (w, ts))
+
+-- digits alone
+abbrev pub read_number : List (ℕ × CostToken) → Option Word
+read_number ((at, Digits bytes) ∷ []) = Some (word at bytes)
+read_number _ = None
+
+-- the addend at the end: none, or a number behind a plus sign
+abbrev pub read_addend : List (ℕ × CostToken) → Option (Option Word)
+read_addend [] = Some None
+read_addend (t ∷ ts) = and_then (behind_token (is_single 43) (t ∷ ts)) (λ ts. and_then (read_number ts) (λ w. Some (Some w)))
+
+-- `(a,LO,HI)` with or without an addend, behind the word `range`, which stands at a place
+abbrev pub read_range : ℕ → List (ℕ × CostToken) → Option CostText
+read_range at ts =
+    and_then (behind_token (is_single 40) ts) (λ ts.
+    and_then (behind_token (is_word (codes "a")) ts) (λ ts.
+    and_then (behind_token (is_single 44) ts) (λ ts.
+    and_then (read_bound ts) (λ lo.
+    and_then (behind_token (is_single 44) lo.1) (λ ts.
+    and_then (read_bound ts) (λ hi.
+    and_then (behind_token (is_single 41) hi.1) (λ ts.
+    and_then (read_addend ts) (λ addend.
+    Some (Ranged at lo.0 hi.0 addend)))))))))
+
+-- the cost that the tokens are, where they are one: none, a number, or a range
+abbrev pub read_cost : List (ℕ × CostToken) → Option CostText
+read_cost [] = Some NoCost
+read_cost (t ∷ ts) = if is_word (codes "range") t.1 then read_range t.0 ts else and_then (read_number (t ∷ ts)) (λ w. Some (Amount w))
 
 -- the cost that the bytes spell, where they spell one
-abbrev pub cost_in : ℕ → List ℕ → Option CostText
-cost_in at bytes = cost_of (cost_tokens_to (length bytes) at bytes)
+unfoldable pub cost_in : ℕ → List ℕ → Option CostText
+cost_in at bytes = read_cost (cost_tokens at bytes)
 
 -- where the bytes spell no cost: the first byte that isn't a blank
 abbrev pub wrong_cost : ℕ → List ℕ → Option ℕ

@@ -35,22 +35,37 @@ names_in (s ∷ spots) = elim s.token as (λ _. List Word) [ Name n ↦ word s.a
 abbrev pub pattern_names : List Spot → ℕ
 pattern_names spots = length (drop 1 (names_in spots))
 
--- commas with Integers, n at most, and `)` behind them; k commas stand before
-abbrev pub list_goes_on : ℕ → ℕ → List ℕ → Bool
-list_goes_on zero k bytes = false
-list_goes_on (suc n) k bytes = elim (token_of (skip bytes)) as (λ _. Bool) [
-  | Comma ↦ elim (token_of (skip (behind bytes))) as (λ _. Bool) [ Integer d ↦ list_goes_on n (k + 1) (behind (behind bytes)) | _ ↦ false ]
-  | Close ↦ nat_lt 0 k
-  | _ ↦ false
-]
-
--- two or more Integers with commas between them, and `)`
-abbrev pub is_cost_list : List ℕ → Bool
-is_cost_list bytes = elim (token_of (skip bytes)) as (λ _. Bool) [ Integer d ↦ list_goes_on (length bytes) 0 (behind bytes) | _ ↦ false ]
-
 abbrev pub is_integer : Token → Bool
 is_integer (Integer d) = true
 is_integer _ = false
+
+abbrev pub is_comma : Token → Bool
+is_comma Comma = true
+is_comma _ = false
+
+abbrev pub is_close : Token → Bool
+is_close Close = true
+is_close _ = false
+
+-- the first token
+abbrev pub token_in : List ℕ → Token
+token_in bytes = token_of (skip bytes)
+
+-- what stands behind a comma and an Integer, where the bytes begin with these
+abbrev pub behind_further : List ℕ → Option (List ℕ)
+behind_further bytes = if is_comma (token_in bytes) && is_integer (token_in (behind bytes)) then Some (behind (behind bytes)) else None
+
+-- Integers with commas before them, n at most, and `)`
+abbrev pub closes_to : ℕ → List ℕ → Bool
+closes_to zero bytes = false
+closes_to (suc n) bytes = elim (behind_further bytes) [ None ↦ is_close (token_in bytes) | Some rest ↦ closes_to n rest ]
+
+abbrev pub closes : List ℕ → Bool
+closes bytes = closes_to (suc (length bytes)) bytes
+
+-- two or more Integers with commas between them, and `)`
+abbrev pub is_cost_list : List ℕ → Bool
+is_cost_list bytes = is_integer (token_in bytes) && (elim (behind_further (behind bytes)) as (λ _. Bool) [ None ↦ false | Some rest ↦ closes rest ])
 
 -- the last spot is an Integer
 abbrev pub ends_integer : List Spot → Bool

@@ -61,3 +61,19 @@ open_count (Wanted d) = d
 open_count (Named d) = d
 open_count (Closed d) = d
 open_count _ = 0
+
+-- an item ends there, or the text
+abbrev pub is_border : State → Bool
+is_border (Declaring s t) = true
+is_border Ruling = true
+is_border Ended = true
+is_border _ = false
+
+-- a parenthesis there opens a cost
+abbrev pub wants_cost : State → Bool
+wants_cost Numbered = true
+wants_cost _ = false
+
+abbrev pub is_name : Token → Bool
+is_name (Name n) = true
+is_name _ = false

@@ -1,13 +1,28 @@
 //! The text of a grammar: its tokens, its form, its faults, and what it says.
 #![tactic(auto)]
 
+mod arity;
+mod checks;
+mod cost;
+mod decision;
 mod fault;
+mod finish;
 mod form;
+mod item;
 pub mod laws;
+mod meaning;
+mod names;
 mod number;
 mod pattern;
+mod place;
 mod print;
+mod read;
+mod scan;
+mod strings;
+mod tables;
 mod template;
 mod tokens;
+mod values;
+mod words;
 
 pub use print::print_grammar;

@@ -4,6 +4,7 @@ ghost use Rattle.std.specs.Prelude.{◌≡◌, ◌≤◌, ◌+◌, ◌∷◌, []
 ghost use Rattle.sel_grammar_text.specs.declared.template.TemplatePiece.{TemplatePiece};
 ghost use Rattle.sel_grammar_text.specs.TemplateText.{pieces, unescape, bad_sign, parts_of, template_of, text_part, put, is_text, Adds};
 
+use crate::tokens::behind;
 use sel_base::{List, NoMemory};
 use sel_grammar::Part;
 use std::alloc::Global;
@@ -145,14 +146,6 @@ fn add(
             Ok(Vec::new(alloc))
         }
     }
-}
-
-/// The bytes behind the first n.
-fn behind(bytes: &[u8], n: usize) -> &[u8]
-    requires { n ≤ length bytes.now }
-    ensures { result.now ≡ drop n bytes.now }
-{
-    &bytes[n..]
 }
 
 /// The parts of the template between the quotes.

@@ -1,11 +1,13 @@
 //! Blanks, comments and tokens.
 
-ghost use Rattle.std.specs.Prelude.{◌≡◌, ◌≤◌, ◌<◌, ◌+◌, ◌^◌, length, MatchOption, IfSome, false};
+ghost use Rattle.std.specs.Prelude.{drop, ◌≡◌, ◌≤◌, ◌<◌, ◌+◌, ◌^◌, length, MatchOption, IfSome, false};
 ghost use Rattle.std.specs.List.{prefix_len};
 ghost use Rattle.std.specs.Char.{is_ascii_digit};
 ghost use Rattle.sel_grammar.specs.Names as names;
 ghost use Rattle.sel_grammar_text.specs.Blanks as blanks;
+ghost use Rattle.sel_grammar_text.specs.ItemNumbers.{HasDigits};
 ghost use Rattle.sel_grammar_text.specs.Pieces.{view};
+ghost use Rattle.sel_grammar_text.specs.Spots as spots;
 ghost use Rattle.sel_grammar_text.specs.Tokens as tokens;
 
 use sel_grammar::names::{is_letter, is_name_byte};
@@ -14,6 +16,14 @@ fn is_blank(b: u8) -> bool
     ensures { result ≡ blanks.is_blank b }
 {
     b == b' ' || b == b'\t' || b == b'\r' || b == 12 || b == b'\n'
+}
+
+/// The bytes behind the first n.
+pub fn behind(bytes: &[u8], n: usize) -> &[u8]
+    requires { n ≤ length bytes.now }
+    ensures { result.now ≡ drop n bytes.now }
+{
+    &bytes[n..]
 }
 
 /// What stands behind the first two such bytes.
@@ -33,7 +43,8 @@ fn behind_pair(first: u8, second: u8, bytes: &[u8]) -> Option<&[u8]>
 
 /// What stands behind one blank or comment.
 fn behind_blank(bytes: &[u8]) -> Option<&[u8]>
-    ensures { MatchOption result (blanks.behind_blank bytes.now ≡ None) (λ rest. blanks.behind_blank bytes.now ≡ Some rest.now) }
+    ensures shorter { IfSome result (λ rest. length rest.now < length bytes.now) }
+    ensures rest { MatchOption result (blanks.behind_blank bytes.now ≡ None) (λ rest. blanks.behind_blank bytes.now ≡ Some rest.now) }
 {
     match bytes {
         [b, rest @ ..] if is_blank(*b) => Some(rest),
@@ -44,7 +55,8 @@ fn behind_blank(bytes: &[u8]) -> Option<&[u8]>
 
 /// The bytes without the blanks and comments at their front.
 pub fn skip(bytes: &[u8]) -> &[u8]
-    ensures { result.now ≡ blanks.skip bytes.now }
+    ensures skipped { result.now ≡ blanks.skip bytes.now }
+    ensures shorter { length result.now ≤ length bytes.now }
 {
     let mut left = bytes;
     while let Some(rest) = behind_blank(left) {
@@ -71,14 +83,14 @@ fn inside_len(bytes: &[u8]) -> Option<usize>
     None
 }
 
-fn name_len(bytes: &[u8]) -> usize
+pub fn name_len(bytes: &[u8]) -> usize
     ensures len { result ≡ prefix_len names.is_name_byte bytes.now }
     ensures fits { result ≤ length bytes.now }
 {
     bytes.iter().take_while(|b| is_name_byte(**b)).count()
 }
 
-fn digits_len(bytes: &[u8]) -> usize
+pub fn digits_len(bytes: &[u8]) -> usize
     ensures len { result ≡ prefix_len is_ascii_digit bytes.now }
     ensures fits { result ≤ length bytes.now }
 {
@@ -130,7 +142,8 @@ fn mark<'a>(b: u8) -> Piece<'a>
 
 /// What a quote begins, by the bytes behind it.
 fn quoted(bytes: &[u8]) -> Piece<'_>
-    ensures { view result ≡ tokens.quoted bytes.now }
+    ensures token { view result ≡ tokens.quoted bytes.now }
+    ensures fits { tokens.width (view result) ≤ length bytes.now + 1 }
 {
     match inside_len(bytes) {
         None => Piece::Unclosed,
@@ -143,7 +156,8 @@ fn quoted(bytes: &[u8]) -> Piece<'_>
 
 /// What a percent sign begins, by the bytes behind it.
 fn percent(bytes: &[u8]) -> Piece<'_>
-    ensures { view result ≡ tokens.percent bytes.now }
+    ensures token { view result ≡ tokens.percent bytes.now }
+    ensures fits { tokens.width (view result) ≤ length bytes.now + 1 }
 {
     if bytes.starts_with(b"start") {
         Piece::Start
@@ -162,8 +176,9 @@ fn percent(bytes: &[u8]) -> Piece<'_>
 }
 
 /// The token at the front of the bytes, which begin with no blank.
-fn token_at(bytes: &[u8]) -> Piece<'_>
-    ensures { view result ≡ tokens.token_of bytes.now }
+pub fn token_at(bytes: &[u8]) -> Piece<'_>
+    ensures token { view result ≡ tokens.token_of bytes.now }
+    ensures fits { tokens.width (view result) ≤ length bytes.now }
 {
     let Some((first, behind)) = bytes.split_first() else {
         return Piece::End;
@@ -182,7 +197,7 @@ fn token_at(bytes: &[u8]) -> Piece<'_>
 }
 
 /// How many bytes a token takes.
-fn width(piece: &Piece<'_>) -> usize
+pub fn width(piece: &Piece<'_>) -> usize
     requires { tokens.width (view piece.now) < 2 ^ 64 }
     ensures { result ≡ tokens.width (view piece.now) }
 {
@@ -195,5 +210,33 @@ fn width(piece: &Piece<'_>) -> usize
         Piece::Percents | Piece::OpenCode => 2,
         Piece::End => 0,
         _ => 1,
+    }
+}
+
+/// A token, the bytes from it on, and the bytes behind it.
+#[derive(Clone, Copy, Debug)]
+pub struct Found<'a> {
+    pub piece: Piece<'a>,
+    pub from: &'a [u8],
+    pub behind: &'a [u8],
+}
+
+/// The next token, blanks and comments left out.
+#[tactic(auto, using(crate::proofs::DigitTokens::token_digits))]
+pub fn next_token(bytes: &[u8]) -> Found<'_>
+    ensures from { result.from.now ≡ blanks.skip bytes.now }
+    ensures from_within { length result.from.now ≤ length bytes.now }
+    ensures token { view result.piece ≡ tokens.token_of (blanks.skip bytes.now) }
+    ensures digits { HasDigits (view result.piece) }
+    ensures behind { result.behind.now ≡ spots.behind bytes.now }
+    ensures behind_within { length result.behind.now + tokens.width (view result.piece) ≡ length result.from.now }
+{
+    let from = skip(bytes);
+    let piece = token_at(from);
+    let behind = &from[width(&piece)..];
+    Found {
+        piece,
+        from,
+        behind,
     }
 }

@@ -1,9 +1,9 @@
-use Rattle.std.proofs.Common.{sym, ◌∙◌}
-use Rattle.sel_grammar_text.proofs.Blanks.{shorter, skip_one}
+use Rattle.std.proofs.Common.{sym, ◌∙◌, arith}
+use Rattle.sel_grammar_text.proofs.Blanks.{skip_one}
 use Rattle.sel_grammar_text.proofs.tokens.skip.Goals as goal
 
-pub loop-rest-smaller : goal.loop-rest-smaller
-loop-rest-smaller c = shorter c.loop-rest.left.now c.in-Some.rest.now c.in-Some.ensures
-
 pub loop-rest-preserved : goal.loop-rest-preserved
-loop-rest-preserved c = sym (skip_one c.loop-rest.left.now c.in-Some.rest.now c.in-Some.ensures) ∙ c.loop-rest.invariant
+loop-rest-preserved c = record {
+  same = sym (skip_one c.loop-rest.left.now c.in-Some.rest.now c.in-Some.ensures.rest) ∙ c.loop-rest.invariant.same;
+  shorter = omega (arith, c.in-Some.ensures.shorter, c.loop-rest.invariant.shorter);
+}
