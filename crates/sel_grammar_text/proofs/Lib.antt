@@ -32,6 +32,7 @@ pub mod PrintedTails
 pub mod SourceNames
 pub mod RulesAgain
 pub mod RoundTrip
+pub mod PrintedExamples
 pub mod NameNumbers
 pub mod ItemLists
 pub mod NumberStays

@@ -84,29 +84,5 @@ none_passes rest = same (inside_len false rest)
     same None = refl
     same (Some n) = ap Some (omega arith)
 
-text_passes : (bytes : List ℕ) → Passes (flat_map printed_byte bytes)
-text_passes [] = none_passes
-text_passes (b ∷ bytes) = passes-append (printed_byte b) (flat_map printed_byte bytes) (byte_passes b) (text_passes bytes)
-
 pub sign_passes : (c : ℕ) → eqb c 34 ≡ false → eqb c 10 ≡ false → eqb c 92 ≡ false → Passes (37 ∷ c ∷ [])
 sign_passes c h k j rest = rw (h, k, j) (two_more (inside_len false rest))
-
--- A printed template ends at the closing quote behind it.
-pub template_passes : (parts : List Part) → AreParts parts → Passes (printed_template parts)
-template_passes [] h = none_passes
-template_passes (Text bytes ∷ parts) h = passes-append (flat_map printed_byte bytes) (printed_template parts) (text_passes bytes) (template_passes parts h.1)
-template_passes (Kid k ∷ parts) h =
-    subst (λ ds. Passes ((37 ∷ ds) ++ printed_template parts)) (sym (decimal_digit k (omega arith))) (passes-append (37 ∷ (48 + k) ∷ []) (printed_template parts) (sign_passes (48 + k) (unequal _ _ (λ e. omega arith)) (unequal _ _ (λ e. omega arith)) (unequal _ _ (λ e. omega arith))) (template_passes parts h.1))
-template_passes (Attribute ∷ parts) h = passes-append (37 ∷ 97 ∷ []) (printed_template parts) (sign_passes 97 refl refl refl) (template_passes parts h.1)
-template_passes (Temp ∷ parts) h = passes-append (37 ∷ 99 ∷ []) (printed_template parts) (sign_passes 99 refl refl refl) (template_passes parts h.1)
-
--- The token of a printed template, with what is printed behind it on the line.
-pub template_token : (parts : List Part) (behind rest : List ℕ) → AreParts parts → Each is_on_line behind → Stops is_on_line rest
-    → token_of (34 ∷ (printed_template parts ++ (34 ∷ (behind ++ rest)))) ≡ Quoted (printed_template parts) behind
-template_token parts behind rest h e s =
-    let inside = printed_template parts in
-    let len : inside_len false (inside ++ (34 ∷ (behind ++ rest))) ≡ Some (length inside + 0) = template_passes parts h (34 ∷ (behind ++ rest)) in
-    let plain : length inside + 0 ≡ length inside = omega arith in
-    let tail : drop (length inside + 1) (inside ++ (34 ∷ (behind ++ rest))) ≡ behind ++ rest = drop_past inside 34 (behind ++ rest) in
-    rw (len, plain) (ap (λ x. Quoted x (take_while is_on_line (drop (length inside + 1) (inside ++ (34 ∷ (behind ++ rest)))))) (take-append_seam inside (34 ∷ (behind ++ rest)))
-    ∙ ap (λ x. Quoted inside (take_while is_on_line x)) tail ∙ ap (Quoted inside) (taken is_on_line behind rest e s))

@@ -12,7 +12,7 @@ use Rattle.sel_grammar_text.specs.declared.template.TemplatePiece.TheVariants.{B
 use Rattle.sel_grammar_text.specs.Checks.{begins_reserved}
 use Rattle.sel_grammar_text.specs.FormFaults.{is_string_byte, is_escape, bad_byte}
 use Rattle.sel_grammar_text.specs.TemplateText.{pieces, unescape, may_follow_sign, bad_sign, first_sign, ends_line, add_byte, sign_parts, parts_of, template_of}
-use Rattle.sel_grammar_text.specs.Printing.{printed_byte, printed_part, printed_template}
+use Rattle.sel_grammar_text.specs.Printing.{printed_byte, printed_part, printed_template, AreParts}
 use Rattle.sel_grammar_text.proofs.Templates.{by_test, unequal}
 use Rattle.sel_grammar_text.proofs.Printed.{Passes, byte_passes, sign_passes, none_passes, passes-append}
 
@@ -299,6 +299,37 @@ parts_so ((at, Byte b) ∷ ps) = ap (add_byte b) (parts_so ps)
 parts_so ((at, Sign c) ∷ ps) = ap (sign_parts c) (parts_so ps)
 parts_so ((at, LoneSign) ∷ ps) = ap (add_byte 37) (parts_so ps)
 
+-- What the parts are.
+
+add_shaped : (b : ℕ) (parts : List Part) → AreParts parts → AreParts (add_byte b parts)
+add_shaped b [] h = (refl, h)
+add_shaped b (Text [] ∷ parts) h = absurd h.0
+add_shaped b (Text (c ∷ bytes) ∷ parts) h = (h.0, h.1)
+add_shaped b (Kid k ∷ parts) h = (refl, h)
+add_shaped b (Attribute ∷ parts) h = (refl, h)
+add_shaped b (Temp ∷ parts) h = (refl, h)
+
+sign_shaped : (parts : List Part) (c : ℕ) → AreParts parts → may_follow_sign c ≡ true → AreParts (sign_parts c parts)
+sign_shaped parts c g h = elim (test c 97) [
+  | inl e ↦ subst (λ x. AreParts (sign_parts x parts)) (sym e) (tt, g)
+  | inr n ↦ elim (test c 99) [
+    | inl e ↦ subst (λ x. AreParts (sign_parts x parts)) (sym e) (tt, g)
+    | inr m ↦ elim (test c 37) [
+      | inl e ↦ subst (λ x. AreParts (sign_parts x parts)) (sym e) (add_shaped 37 parts g)
+      | inr k ↦
+          let d : is_ascii_digit c ≡ true = grind (arith, h, n, m, k) in
+          let l : (48 ≤ c) × (c ≤ 57) = grind (arith, d) in
+          rw (n, m, k) (omega (arith, l.1), g)
+    ]
+  ]
+]
+
+shaped : (ps : List (ℕ × TemplatePiece)) → ArePieces (plain ps) → AreParts (parts_of ps)
+shaped [] h = tt
+shaped ((at, Byte b) ∷ ps) h = add_shaped b (parts_of ps) (shaped ps h.1)
+shaped ((at, Sign c) ∷ ps) h = sign_shaped (parts_of ps) c (shaped ps h.1) h.0
+shaped ((at, LoneSign) ∷ ps) h = absurd h.0
+
 -- What is printed of a text's template.
 pub record IsReadAgain (inside : List ℕ) (again : List ℕ) : Type 0 where
   pub passes : Passes again
@@ -307,6 +338,7 @@ pub record IsReadAgain (inside : List ℕ) (again : List ℕ) : Type 0 where
   pub free : begins_reserved again ≡ false
   pub signs : (at : ℕ) → bad_sign (pieces at again) ≡ None
   pub parts : template_of again ≡ template_of inside
+  pub shape : AreParts (template_of inside)
 
 pub read_so : (inside : List ℕ) (at to : ℕ) → bad_byte at inside ≡ None → begins_reserved inside ≡ false → bad_sign (pieces to inside) ≡ None → IsReadAgain inside (printed_template (template_of inside))
 read_so inside at to h k l =
@@ -322,4 +354,5 @@ read_so inside at to h k l =
       free = free_again qs lawful (free_pieces inside at to h k);
       signs = λ a. no_bad_sign (pieces a (flat_map printed_piece qs)) (subst ArePieces (sym (cut_again qs lawful a)) lawful);
       parts = parts_so (pieces 0 (flat_map printed_piece qs)) ∙ ap parts_plainly (same 0 0) ∙ sym (parts_so (pieces 0 inside));
+      shape = shaped (pieces 0 inside) (subst ArePieces (anywhere inside to 0) lawful);
     })

@@ -8,6 +8,7 @@ use Rattle.sel_grammar.specs.Limits as limits
 use Rattle.sel_grammar.specs.Limits.{greatest_external, most_operators}
 use Rattle.sel_grammar.specs.declared.grammar.Grammar.{Grammar}
 use Rattle.sel_grammar.specs.declared.grammar.Operator.{Operator}
+use Rattle.sel_grammar.specs.declared.grammar.Rule.{Rule}
 use Rattle.sel_grammar_text.specs.Tokens.{Token, Name, Integer, Start, Term, Percents, Equals, End}
 use Rattle.sel_grammar_text.specs.Form.{DeclarationForm, StartForm, TermForm, CodeForm, declaration_tokens, RuleForm, rule_tokens, is_small, IsSmall, IsDeclaration, starts, IsText}
 use Rattle.sel_grammar_text.specs.Items.{Word, word, RuleText, Item, StartItem, EntryItem, CodeItem, PercentsItem, RuleItem}
@@ -18,8 +19,9 @@ use Rattle.sel_grammar_text.specs.Faults.{fault, fault_at, or_fault}
 use Rattle.sel_grammar_text.specs.ItemFaults.{check, check_all}
 use Rattle.sel_grammar_text.specs.GrammarText.{IsWhole, nonterminal_uses, left_names, first_absent, end_fault, items_of, SpellsGrammar}
 use Rattle.sel_grammar_text.specs.Meaning.{rule_of, operators_of, start_of, grammar_of}
+use Rattle.sel_grammar_text.specs.Printing.{AreParts}
 use Rattle.sel_grammar_text.specs.PrintedGrammar.{name_at, operator_names, printed_rule, printed_operator, printed, without_place, IsSameButPlaces, SpellsAgain}
-use Rattle.sel_grammar_text.specs.Laws.{PrintedIsRead}
+use Rattle.sel_grammar_text.specs.Laws.{PrintedIsRead, TemplatesAreParts}
 use Rattle.sel_grammar_text.specs.declared.fault.Fault.{Fault}
 use Rattle.sel_grammar_text.proofs.PrintedTokens.{CutsInto, cuts_none, cuts_one, cuts_start, cuts_entry, cuts_percents, IsName}
 use Rattle.sel_grammar_text.proofs.PrintedCosts.{decimal_number, decimal_value}
@@ -29,7 +31,7 @@ use Rattle.sel_grammar_text.proofs.FormCuts.{fresh, AllFine, rule_texts, rule_it
 use Rattle.sel_grammar_text.proofs.WholeTexts.{no_faults, all_fine, all_pass, passes-split, passes-append, whole_so}
 use Rattle.sel_grammar_text.proofs.SameChecks.{SameRules, SameRule, same_length, bytes_of, same_leaves, same_nonterminals, same_uses, same_first, with_by, with_so}
 use Rattle.sel_grammar_text.proofs.SourceNames.{AllLexed, lexed_first, lexed-split, EntryGood, EntriesGood, good-append, good_declarations, operators-append, rules-append, rules_alone, no_rules, NamesPass, names_pass, entry_passes, AllAmong, among-split, words_among}
-use Rattle.sel_grammar_text.proofs.RulesAgain.{forms_again, RuleGood, RulesGood, rules_good, cuts_rules, rules_fit, rules_small, same_rules, pass_again, rules_say}
+use Rattle.sel_grammar_text.proofs.RulesAgain.{forms_again, RuleGood, RulesGood, rules_good, cuts_rules, rules_fit, rules_small, same_rules, pass_again, rules_say, templates_good}
 
 -- Operators.
 
@@ -613,3 +615,13 @@ read_known source items k =
 pub read_again : PrintedIsRead
 read_again source g s =
     subst (λ h. SpellsAgain (printed h) h) (sym s.says) (read_known source (items_of s.n source) (known source s.n (here s.n source).at s.whole s.no_fault))
+
+templates_known : (source : List ℕ) (items : List Item) → Known items → AllByRecursion (λ (rule : Rule). AreParts rule.template.parts) (grammar_of source items).rules
+unfolding grammar_of
+templates_known source items k =
+    let ops = operators items in let nts = nonterminals items in
+    subst (λ ts. AllByRecursion (λ (rule : Rule). AreParts rule.template.parts) (map (rule_of source ops nts) ts)) (sym k.rules_are) (templates_good ops nts source k.rs k.texts k.good)
+
+pub templates_are_parts : TemplatesAreParts
+templates_are_parts source g s =
+    subst (λ h. AllByRecursion (λ (rule : Rule). AreParts rule.template.parts) h.rules) (sym s.says) (templates_known source (items_of s.n source) (known source s.n (here s.n source).at s.whole s.no_fault))

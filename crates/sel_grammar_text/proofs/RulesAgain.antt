@@ -20,6 +20,7 @@ use Rattle.sel_grammar_text.specs.TemplateText.{pieces, bad_sign}
 use Rattle.sel_grammar_text.specs.Faults.{or_fault}
 use Rattle.sel_grammar_text.specs.ItemFaults.{check, check_all}
 use Rattle.sel_grammar_text.specs.Meaning.{cost_number, range_of, parts_of_tail, external_of, rule_of}
+use Rattle.sel_grammar_text.specs.Printing.{AreParts}
 use Rattle.sel_grammar_text.specs.PrintedGrammar.{name_at, printed_pattern, printed_tail, printed_rule, printed_operator, without_place}
 use Rattle.sel_grammar_text.specs.declared.fault.Fault.{Fault}
 use Rattle.sel_grammar_text.proofs.Printed.{Stops}
@@ -234,3 +235,15 @@ rules_say ops nts source again ps (r ∷ rs) (t ∷ ts) g =
     let qs = places_past ps (rule_tokens (form_again r t)) in
     ap (λ x. x ∷ map without_place (map (rule_of source ops nts) ts)) (says_again ops nts source again ps r t g.0)
     ∙ ap (λ x. without_place (rule_of again ops nts (rule_text ps (form_again r t))) ∷ x) (rules_say ops nts source again qs rs ts g.1)
+
+-- The templates of the rules.
+
+parts_good : (t : TailText) → TailGood t → AreParts (parts_of_tail t)
+parts_good (OneLine w c) h = h.0.shape
+parts_good (Burg e c) h = tt
+
+pub templates_good : (ops nts : List (List ℕ)) (source : List ℕ) (rs : List RuleForm) (ts : List RuleText) → RulesGood ops nts rs ts → AllByRecursion (λ (rule : Rule). AreParts rule.template.parts) (map (rule_of source ops nts) ts)
+templates_good ops nts source [] [] g = tt
+templates_good ops nts source [] (t ∷ ts) g = absurd g
+templates_good ops nts source (r ∷ rs) [] g = absurd g
+templates_good ops nts source (r ∷ rs) (t ∷ ts) g = (parts_good t.tail g.0.tail, templates_good ops nts source rs ts g.1)

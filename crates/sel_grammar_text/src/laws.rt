@@ -1,5 +1,5 @@
 //! Laws of the definitions. The functions do nothing: their contracts say them.
-ghost use Rattle.sel_grammar_text.specs.Laws.{GrammarIsOne, GrammarFaultIsOne, NotGrammarAndFault, StateGoesOn, NoStateStops, EndIsText, TextIsEnd, PrintedIsRead};
+ghost use Rattle.sel_grammar_text.specs.Laws.{GrammarIsOne, GrammarFaultIsOne, NotGrammarAndFault, StateGoesOn, NoStateStops, EndIsText, TextIsEnd, PrintedIsRead, TemplatesAreParts};
 
 /// A text spells at most one grammar, and has at most one fault. No text has both.
 pub fn grammar_or_fault()
@@ -21,4 +21,10 @@ pub fn states_follow_the_form()
 /// of its rules.
 pub fn printed_is_read()
     ensures { PrintedIsRead }
+{}
+
+/// No text in a template of a grammar that a text spells is empty or stands beside another one, and
+/// kids are named by one digit.
+pub fn templates_are_parts()
+    ensures { TemplatesAreParts }
 {}
