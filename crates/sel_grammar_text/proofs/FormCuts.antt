@@ -1,11 +1,11 @@
 -- How a text of the form is cut, and when no token of it has a fault.
-use Rattle.std.proofs.Common.{◌≡◌, ℕ, suc, zero, ◌+◌, ◌-◌, ◌≤◌, ◌<◌, List, [], ◌∷◌, ◌++◌, Option, Some, None, Bool, true, false, length, drop, refl, ap, sym, ◌∙◌, subst, arith, cond, append_assoc, append-nil, inl, inr, map}
+use Rattle.std.proofs.Common.{◌≡◌, ℕ, ◌+◌, ◌≤◌, List, [], ◌∷◌, ◌++◌, Some, None, Bool, true, false, length, refl, ap, sym, ◌∙◌, subst, arith, cond, append_assoc, append-nil, inl, inr, map}
 use Rattle.std.specs.List.{flat_map}
 use Rattle.std.proofs.Math.Nat.{eq-or-lt_of_le}
 use Rattle.sel_grammar.specs.Limits.{most_names}
-use Rattle.sel_grammar_text.specs.Tokens.{Token, Name, Integer, Quoted, Start, Term, Percents, Code, Colon, Equals, Open, Close, Comma, Semi, End}
-use Rattle.sel_grammar_text.specs.Form.{Patterns, Side, below, beside, pattern_tokens, DeclarationForm, StartForm, TermForm, CodeForm, entry_tokens, declaration_tokens, TailForm, OneLineForm, BurgForm, tail_tokens, RuleForm, rule_tokens}
-use Rattle.sel_grammar_text.specs.Items.{Word, word, RuleText, Item, StartItem, EntryItem, CodeItem, PercentsItem, RuleItem}
+use Rattle.sel_grammar_text.specs.Tokens.{Token, Name, Integer, Quoted, Start, Term, Percents, Code, Colon, Equals, Open, Close, Semi, End}
+use Rattle.sel_grammar_text.specs.Form.{below, pattern_tokens, DeclarationForm, StartForm, TermForm, CodeForm, entry_tokens, declaration_tokens, TailForm, OneLineForm, BurgForm, tail_tokens, RuleForm, rule_tokens}
+use Rattle.sel_grammar_text.specs.Items.{word, RuleText, Item, StartItem, EntryItem, CodeItem, PercentsItem, RuleItem}
 use Rattle.sel_grammar_text.specs.CostText.{wrong_cost}
 use Rattle.sel_grammar_text.specs.FormFaults.{bad_byte, names_in, pattern_names}
 use Rattle.sel_grammar_text.specs.Spots.{Spot}

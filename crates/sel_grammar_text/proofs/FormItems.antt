@@ -1,17 +1,12 @@
 -- The items that a text of the form is cut into.
-use Rattle.std.proofs.Common.{◌≡◌, ℕ, suc, zero, ◌+◌, ◌-◌, ◌≤◌, ◌<◌, List, [], ◌∷◌, ◌++◌, Option, Some, None, Bool, true, false, length, drop, refl, ap, sym, ◌∙◌, subst, arith, cond, eqb, ◌||◌, ◌&&◌, append_assoc, append-nil, length-append, inl, inr, map}
-use Rattle.std.specs.List.{flat_map, AllByRecursion}
-use Rattle.std.proofs.lemmas.List.{map-append}
-use Rattle.sel_grammar.specs.Limits.{most_names}
-use Rattle.sel_grammar_text.specs.Tokens.{Token, Name, Integer, Quoted, Unclosed, Start, Term, Percents, Code, OpenCode, Colon, Equals, Open, Close, Comma, Semi, Bad, End}
-use Rattle.sel_grammar_text.specs.Form.{Patterns, no_patterns, pattern, Side, below, beside, pattern_tokens, DeclarationForm, StartForm, TermForm, CodeForm, entry_tokens, declaration_tokens, TailForm, OneLineForm, BurgForm, tail_tokens, RuleForm, rule_tokens}
-use Rattle.sel_grammar_text.specs.Items.{Word, word, CostText, NoCost, TailText, OneLine, Burg, RuleText, Item, StartItem, EntryItem, CodeItem, PercentsItem, RuleItem}
-use Rattle.sel_grammar_text.specs.CostText.{cost_in, wrong_cost}
-use Rattle.sel_grammar_text.specs.Names.{operators, rules}
-use Rattle.sel_grammar_text.specs.FormFaults.{bad_byte, names_in, pattern_names}
+use Rattle.std.proofs.Common.{◌≡◌, ℕ, ◌+◌, ◌-◌, ◌<◌, List, [], ◌∷◌, ◌++◌, Some, None, Bool, true, false, length, refl, ap, sym, ◌∙◌, arith, cond, eqb, append_assoc, append-nil, map}
+use Rattle.sel_grammar_text.specs.Tokens.{Token, Name, Quoted, Equals, Open, Close, Comma}
+use Rattle.sel_grammar_text.specs.Form.{Patterns, no_patterns, pattern, Side, below, beside, pattern_tokens, TailForm, OneLineForm, BurgForm, tail_tokens, RuleForm}
+use Rattle.sel_grammar_text.specs.Items.{Word, word, TailText, OneLine, Burg}
+use Rattle.sel_grammar_text.specs.CostText.{cost_in}
 use Rattle.sel_grammar_text.proofs.Templates.{unequal}
 use Rattle.sel_grammar_text.specs.Spots.{Spot, tokens}
-use Rattle.sel_grammar_text.specs.Cutting.{is_equals, ends, commas, kids_behind, pattern_in, numbers_in, or_no_cost, tail_in, item_of, Cutting, with_spot, cut_on}
+use Rattle.sel_grammar_text.specs.Cutting.{commas, kids_behind, pattern_in, or_no_cost, tail_in, Cutting, with_spot, cut_on}
 
 -- Spots by their places and tokens.
 abbrev pub head_of : List ℕ → ℕ

@@ -15,6 +15,7 @@ pub mod Bordering
 pub mod Depths
 pub mod Tails
 pub mod Walking
+pub mod SomeAnswer
 pub mod Templates
 pub mod Printed
 pub mod Built
@@ -31,6 +32,7 @@ pub mod SameChecks
 pub mod PrintedTails
 pub mod SourceNames
 pub mod RulesAgain
+pub mod OperatorsAgain
 pub mod RoundTrip
 pub mod PrintedExamples
 pub mod NameNumbers

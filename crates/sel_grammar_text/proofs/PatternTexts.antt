@@ -1,7 +1,6 @@
 -- The pattern that a tree of names builds is printed as the tree.
-use Rattle.std.proofs.Common.{◌≡◌, ℕ, suc, zero, ◌+◌, ◌≤◌, ◌<◌, List, [], ◌∷◌, ◌++◌, Bool, true, false, length, refl, ap, sym, ◌∙◌, subst, arith, cond, eqb, ◌||◌, ◌⊎◌, append_assoc, append-nil, length-append, inl, inr, map}
+use Rattle.std.proofs.Common.{◌≡◌, ℕ, suc, zero, ◌+◌, ◌≤◌, ◌<◌, List, [], ◌∷◌, ◌++◌, Bool, true, false, length, refl, ap, sym, ◌∙◌, arith, cond, ◌||◌, ◌⊎◌, append_assoc, append-nil, length-append, inl, inr, map}
 use Rattle.std.specs.Prelude.{codes, bytes_eq, not}
-use Rattle.std.specs.List.{list_any, position_or_len, prefix_len}
 use Rattle.std.proofs.lemmas.List.{map-append}
 use Rattle.std.proofs.lemmas.Slice.Eq.{bytes_eq-Decides}
 use Rattle.std.proofs.Math.Numerals.{one-add}
@@ -10,7 +9,7 @@ use Rattle.sel_grammar_text.specs.declared.pattern.PatternName.{PatternName}
 use Rattle.sel_grammar_text.specs.declared.pattern.PatternName.TheVariants.{Nonterminal, Operator}
 use Rattle.sel_grammar_text.specs.Items.{Word}
 use Rattle.sel_grammar_text.specs.Names.{is_among, number_of}
-use Rattle.sel_grammar_text.specs.Form.{Patterns, no_patterns, pattern, below, beside}
+use Rattle.sel_grammar_text.specs.Form.{Patterns, no_patterns, pattern, below}
 use Rattle.sel_grammar_text.specs.Patterns.{built_to, built, numbered, pattern_of}
 use Rattle.sel_grammar_text.specs.PrintedGrammar.{name_at, printed_pattern}
 use Rattle.sel_grammar_text.proofs.PrintedTokens.{patterns_text}

@@ -1,16 +1,13 @@
 -- The tokens of printed text.
 use Rattle.std.proofs.Math.Seq.{take-append_seam}
-use Rattle.std.proofs.Common.{◌≡◌, ℕ, suc, ◌+◌, List, [], ◌∷◌, ◌++◌, Option, Some, None, Bool, true, false, length, take, drop, refl, ap, sym, ◌∙◌, subst, arith, eqb, append_assoc, length-append}
+use Rattle.std.proofs.Common.{◌≡◌, ℕ, suc, ◌+◌, List, [], ◌∷◌, ◌++◌, Option, Some, None, Bool, true, false, length, take, drop, refl, ap, ◌∙◌, arith, eqb, append_assoc, length-append}
 use Rattle.std.specs.Prelude.{take_while, option_map}
-use Rattle.std.specs.List.{prefix_len, flat_map}
+use Rattle.std.specs.List.{prefix_len}
 use Rattle.std.specs.Char.{is_ascii_digit}
-use Rattle.std.proofs.lemmas.Fmt.{decimal_digit}
 use Rattle.sel_grammar.specs.Names.{is_letter, is_name_byte}
-use Rattle.sel_grammar.specs.declared.grammar.Part.{Part}
-use Rattle.sel_grammar.specs.declared.grammar.Part.TheVariants.{Text, Kid, Attribute, Temp}
-use Rattle.sel_grammar_text.specs.Tokens.{is_on_line, Name, Integer, Quoted, token_of, inside_len}
-use Rattle.sel_grammar_text.specs.Printing.{printed_byte, printed_template, AreParts}
-use Rattle.sel_grammar_text.proofs.Templates.{by_test, unequal}
+use Rattle.sel_grammar_text.specs.Tokens.{Name, Integer, token_of, inside_len}
+use Rattle.sel_grammar_text.specs.Printing.{printed_byte}
+use Rattle.sel_grammar_text.proofs.Templates.{by_test}
 
 -- what follows doesn't go on with the run
 abbrev pub Stops : (ℕ → Bool) → List ℕ → Type 0

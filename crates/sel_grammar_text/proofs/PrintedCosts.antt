@@ -1,20 +1,20 @@
 -- A printed cost is read again.
-use Rattle.std.proofs.Common.{◌≡◌, ℕ, suc, zero, ◌+◌, ◌-◌, ◌^◌, ◌≤◌, ◌<◌, List, [], ◌∷◌, ◌++◌, Option, Some, None, Bool, true, false, length, take, drop, refl, ap, sym, ◌∙◌, subst, arith, cond, eqb, ◌||◌, ◌&&◌, append_assoc, append-nil, length-append}
+use Rattle.std.proofs.Common.{◌≡◌, ℕ, suc, zero, ◌+◌, ◌-◌, ◌^◌, ◌≤◌, ◌<◌, List, [], ◌∷◌, ◌++◌, Option, Some, None, Bool, true, false, length, drop, refl, ap, sym, ◌∙◌, subst, arith, cond, eqb, ◌&&◌, append-nil, length-append}
 use Rattle.std.specs.Prelude.{codes, decimal, ℤ, pos, negsuc, neg_ℤ, nat_lt, nat_le, take_while}
 use Rattle.std.specs.Fmt.{signed_decimal}
-use Rattle.std.specs.Char.{is_ascii_digit, digit_value}
+use Rattle.std.specs.Char.{is_ascii_digit}
 use Rattle.std.specs.Str.Parse.{digits_value, AllDigits}
 use Rattle.std.proofs.lemmas.Fmt.{decimal_is_IsNumeral}
 use Rattle.std.proofs.lemmas.Str.Parse.{digit_from_value}
 use Rattle.std.specs.Int.{IsInRange}
 use Rattle.sel_base.specs.declared.range.Range.{Range}
-use Rattle.sel_grammar.specs.Names.{is_letter, is_name_byte}
+use Rattle.sel_grammar.specs.Names.{is_name_byte}
 use Rattle.sel_grammar_text.specs.Blanks.{behind_blank, skip}
-use Rattle.sel_grammar_text.specs.Items.{Word, word, CostText, NoCost, Amount, Ranged}
-use Rattle.sel_grammar_text.specs.CostText.{CostToken, CostName, Digits, Negative, Single, cost_width, cost_token, cost_tokens_to, begins_with_digit, read_cost, cost_in, wrong_cost}
+use Rattle.sel_grammar_text.specs.Items.{Word, word, Amount, Ranged}
+use Rattle.sel_grammar_text.specs.CostText.{CostToken, CostName, Digits, Negative, Single, cost_width, cost_token, cost_tokens_to, begins_with_digit, read_cost, cost_in}
 use Rattle.sel_grammar.specs.Limits.{greatest_cost}
 use Rattle.sel_grammar_text.specs.Checks.{begins_with_minus, large_bound, large_cost, place_if}
-use Rattle.sel_grammar_text.specs.Meaning.{bound_of, number_or_0}
+use Rattle.sel_grammar_text.specs.Meaning.{bound_of}
 use Rattle.sel_grammar_text.specs.PrintedGrammar.{printed_cost, printed_addend}
 use Rattle.sel_grammar_text.proofs.Blanks.{skip_one, skip_none}
 use Rattle.sel_grammar_text.proofs.Templates.{unequal}

@@ -1,5 +1,5 @@
 -- A rule's tail is printed, and read again.
-use Rattle.std.proofs.Common.{◌≡◌, ℕ, suc, zero, ◌+◌, ◌-◌, ◌^◌, ◌≤◌, ◌<◌, List, [], ◌∷◌, ◌++◌, Option, Some, None, Bool, true, false, not, length, refl, ap, sym, ◌∙◌, subst, arith, cond, eqb, append_assoc, inl, inr}
+use Rattle.std.proofs.Common.{◌≡◌, ℕ, suc, zero, ◌+◌, ◌-◌, ◌^◌, ◌≤◌, ◌<◌, List, [], ◌∷◌, ◌++◌, Option, Some, None, Bool, true, false, not, length, refl, ap, sym, ◌∙◌, subst, arith, cond, eqb, append_assoc}
 use Rattle.std.specs.Prelude.{codes, decimal, ℤ, pos, negsuc, nat_le}
 use Rattle.std.specs.Fmt.{signed_decimal}
 use Rattle.std.specs.Char.{is_ascii_digit}
@@ -10,18 +10,18 @@ use Rattle.sel_grammar.specs.declared.grammar.Part.{Part}
 use Rattle.sel_grammar.specs.declared.grammar.Rule.{Rule}
 use Rattle.sel_grammar.specs.Names.{is_name_byte}
 use Rattle.sel_grammar_text.specs.Tokens.{is_on_line, Token, Quoted, Equals, Integer, Open, Close, Semi}
-use Rattle.sel_grammar_text.specs.Form.{TailForm, OneLineForm, BurgForm, tail_tokens, IsSmall, IsTail}
+use Rattle.sel_grammar_text.specs.Form.{TailForm, OneLineForm, BurgForm, tail_tokens, IsTail}
 use Rattle.sel_grammar_text.specs.Items.{Word, word, CostText, NoCost, Amount, Ranged, TailText, OneLine, Burg}
 use Rattle.sel_grammar_text.specs.Blanks.{skip}
 use Rattle.sel_grammar_text.specs.CostText.{cost_in, wrong_cost}
 use Rattle.sel_grammar_text.specs.Cutting.{or_no_cost}
-use Rattle.sel_grammar_text.specs.Checks.{or_place, range_at, large_bound, large_cost, large_option, large_in_cost, large_in_tail}
+use Rattle.sel_grammar_text.specs.Checks.{or_place, range_at, large_bound, large_cost, large_option, large_in_cost}
 use Rattle.sel_grammar_text.specs.Meaning.{bound_of, number_or_0, cost_number, range_of, parts_of_tail, external_of}
 use Rattle.sel_grammar_text.specs.TemplateText.{template_of}
 use Rattle.sel_grammar_text.specs.Printing.{printed_template}
 use Rattle.sel_grammar_text.specs.PrintedGrammar.{printed_cost, printed_addend, printed_tail}
 use Rattle.sel_grammar_text.proofs.Printed.{Stops, Each}
-use Rattle.sel_grammar_text.proofs.PrintedTokens.{CutsInto, cuts_template, cuts_burg, over_blank, IsNumber, tells}
+use Rattle.sel_grammar_text.proofs.PrintedTokens.{CutsInto, cuts_template, cuts_burg, over_blank, tells}
 use Rattle.sel_grammar_text.proofs.PrintedCosts.{decimal_number, decimal_value, each_digit, IsBound, addend_word, amount_in, range_in, bound_value, bound_small, bound_fits, cost_small, cost_fits}
 use Rattle.sel_grammar_text.proofs.PrintedTemplates.{IsReadAgain}
 use Rattle.sel_grammar_text.proofs.FormItems.{head_of, tail_of, tail_text}

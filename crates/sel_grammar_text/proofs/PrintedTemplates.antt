@@ -1,6 +1,5 @@
 -- A template that a text has is printed in a form that passes each check, and is read again.
-use Rattle.std.proofs.Common.{◌≡◌, ℕ, suc, zero, ◌+◌, ◌-◌, ◌<◌, ◌≤◌, List, [], ◌∷◌, ◌++◌, Option, Some, None, Bool, true, false, refl, ap, sym, ◌∙◌, subst, arith, cond, eqb, ◌||◌, ◌&&◌, ◌⊎◌, append_assoc, append-nil, inl, inr, map}
-use Rattle.std.specs.Prelude.{decimal}
+use Rattle.std.proofs.Common.{◌≡◌, ℕ, ◌+◌, ◌-◌, ◌<◌, ◌≤◌, List, [], ◌∷◌, ◌++◌, Option, Some, None, Bool, true, false, refl, ap, sym, ◌∙◌, subst, arith, cond, eqb, ◌||◌, ◌⊎◌, append_assoc, inl, inr, map}
 use Rattle.std.specs.List.{flat_map}
 use Rattle.std.specs.Char.{is_ascii_digit}
 use Rattle.std.proofs.lemmas.Bool.Decides.{eqb_tells}
@@ -12,8 +11,8 @@ use Rattle.sel_grammar_text.specs.declared.template.TemplatePiece.TheVariants.{B
 use Rattle.sel_grammar_text.specs.Checks.{begins_reserved}
 use Rattle.sel_grammar_text.specs.FormFaults.{is_string_byte, is_escape, bad_byte}
 use Rattle.sel_grammar_text.specs.TemplateText.{pieces, unescape, may_follow_sign, bad_sign, first_sign, ends_line, add_byte, sign_parts, parts_of, template_of}
-use Rattle.sel_grammar_text.specs.Printing.{printed_byte, printed_part, printed_template, AreParts}
-use Rattle.sel_grammar_text.proofs.Templates.{by_test, unequal}
+use Rattle.sel_grammar_text.specs.Printing.{printed_byte, printed_template, AreParts}
+use Rattle.sel_grammar_text.proofs.Templates.{by_test}
 use Rattle.sel_grammar_text.proofs.Printed.{Passes, byte_passes, sign_passes, none_passes, passes-append}
 
 -- the pieces without their places

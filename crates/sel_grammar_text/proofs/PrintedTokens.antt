@@ -1,13 +1,12 @@
 -- How printed lines are cut into tokens.
-use Rattle.std.proofs.Common.{◌≡◌, ℕ, suc, zero, ◌+◌, ◌-◌, ◌≤◌, ◌<◌, List, [], ◌∷◌, ◌++◌, Option, Some, None, Bool, true, false, length, take, drop, refl, ap, sym, ◌∙◌, subst, arith, cond, eqb, ◌||◌, ◌&&◌, append_assoc, append-nil}
-use Rattle.std.specs.Prelude.{codes, not, option_map, take_while}
+use Rattle.std.proofs.Common.{◌≡◌, ℕ, suc, ◌+◌, List, [], ◌∷◌, ◌++◌, Some, None, Bool, true, false, length, drop, refl, ap, sym, ◌∙◌, subst, arith, cond, eqb, append_assoc}
+use Rattle.std.specs.Prelude.{codes, take_while}
 use Rattle.std.specs.Char.{is_ascii_digit}
-use Rattle.std.specs.List.{starts_with}
 use Rattle.std.proofs.Math.Seq.{take-append_seam}
 use Rattle.std.proofs.lemmas.List.{drop-drop}
 use Rattle.sel_grammar.specs.Names.{is_letter, is_name_byte}
-use Rattle.sel_grammar_text.specs.Blanks.{is_blank, behind_pair, behind_comment, behind_blank, skip}
-use Rattle.sel_grammar_text.specs.Tokens.{is_on_line, Token, Name, Integer, Quoted, Unclosed, Start, Term, Percents, Code, OpenCode, Colon, Equals, Open, Close, Comma, Semi, Bad, End, token_of, width, inside_len, quoted, percent, mark, option_cases}
+use Rattle.sel_grammar_text.specs.Blanks.{is_blank, behind_comment, behind_blank, skip}
+use Rattle.sel_grammar_text.specs.Tokens.{is_on_line, Token, Name, Integer, Quoted, Start, Term, Percents, Colon, Equals, Open, Close, Comma, Semi, token_of, width, inside_len}
 use Rattle.sel_grammar_text.specs.Spots.{behind}
 use Rattle.sel_grammar_text.specs.Form.{Patterns, no_patterns, pattern, Side, below, beside, pattern_tokens}
 use Rattle.sel_grammar_text.proofs.Blanks.{skip_one, skip_none}

@@ -1,140 +1,34 @@
 -- A printed grammar is read again.
-use Rattle.std.proofs.Common.{◌≡◌, ℕ, suc, zero, ◌+◌, ◌-◌, ◌≤◌, ◌<◌, List, [], ◌∷◌, ◌++◌, Option, Some, None, Bool, true, false, not, length, refl, ap, sym, ◌∙◌, subst, arith, cond, eqb, ◌||◌, ◌&&◌, ◌⊎◌, append_assoc, append-nil, length-append, inl, inr, map}
-use Rattle.std.specs.Prelude.{codes, decimal, bytes_eq, nat_le}
+use Rattle.std.proofs.Common.{◌≡◌, ℕ, suc, ◌+◌, List, [], ◌∷◌, ◌++◌, Option, Some, None, Bool, true, false, not, length, refl, ap, sym, ◌∙◌, subst, arith, cond, eqb, ◌||◌, ◌⊎◌, append_assoc, append-nil, inl, inr, map}
+use Rattle.std.specs.Prelude.{codes, bytes_eq}
 use Rattle.std.specs.List.{flat_map, AllByRecursion}
-use Rattle.std.specs.Str.Parse.{digits_value}
 use Rattle.std.proofs.lemmas.List.{map-append}
 use Rattle.sel_grammar.specs.Limits as limits
 use Rattle.sel_grammar.specs.Limits.{greatest_external, most_operators}
-use Rattle.sel_grammar.specs.declared.grammar.Grammar.{Grammar}
 use Rattle.sel_grammar.specs.declared.grammar.Operator.{Operator}
 use Rattle.sel_grammar.specs.declared.grammar.Rule.{Rule}
-use Rattle.sel_grammar_text.specs.Tokens.{Token, Name, Integer, Start, Term, Percents, Equals, End}
-use Rattle.sel_grammar_text.specs.Form.{DeclarationForm, StartForm, TermForm, CodeForm, declaration_tokens, RuleForm, rule_tokens, is_small, IsSmall, IsDeclaration, starts, IsText}
+use Rattle.sel_grammar_text.specs.Tokens.{Token, Name, Start, Percents, End}
+use Rattle.sel_grammar_text.specs.Form.{DeclarationForm, StartForm, declaration_tokens, RuleForm, rule_tokens, IsText}
 use Rattle.sel_grammar_text.specs.Items.{Word, word, RuleText, Item, StartItem, EntryItem, CodeItem, PercentsItem, RuleItem}
 use Rattle.sel_grammar_text.specs.Names.{is_among, number_of, operators, rules, leaves, nonterminal_words, with_words, nonterminals, uses, first_use}
-use Rattle.sel_grammar_text.specs.Spots.{Spot, spot, first, behind, tokens, first_spots, here}
-use Rattle.sel_grammar_text.specs.Cutting.{ends, Cutting, with_spot, cut_on, cutting}
+use Rattle.sel_grammar_text.specs.Spots.{first, behind, tokens, first_spots, here}
+use Rattle.sel_grammar_text.specs.Cutting.{with_spot, cut_on, cutting}
 use Rattle.sel_grammar_text.specs.Faults.{fault, fault_at, or_fault}
 use Rattle.sel_grammar_text.specs.ItemFaults.{check, check_all}
 use Rattle.sel_grammar_text.specs.GrammarText.{IsWhole, nonterminal_uses, left_names, first_absent, end_fault, items_of, SpellsGrammar}
 use Rattle.sel_grammar_text.specs.Meaning.{rule_of, operators_of, start_of, grammar_of}
 use Rattle.sel_grammar_text.specs.Printing.{AreParts}
 use Rattle.sel_grammar_text.specs.PrintedGrammar.{name_at, operator_names, printed_rule, printed_operator, printed, without_place, IsSameButPlaces, SpellsAgain}
-use Rattle.sel_grammar_text.specs.Laws.{PrintedIsRead, TemplatesAreParts}
-use Rattle.sel_grammar_text.specs.declared.fault.Fault.{Fault}
-use Rattle.sel_grammar_text.proofs.PrintedTokens.{CutsInto, cuts_none, cuts_one, cuts_start, cuts_entry, cuts_percents, IsName}
-use Rattle.sel_grammar_text.proofs.PrintedCosts.{decimal_number, decimal_value}
+use Rattle.sel_grammar_text.specs.PrintedLaws.{PrintedIsRead, TemplatesAreParts}
+use Rattle.sel_grammar_text.proofs.PrintedTokens.{CutsInto, cuts_none, cuts_one, cuts_start, cuts_percents, IsName}
 use Rattle.sel_grammar_text.proofs.PatternTexts.{same_bytes, bytes_same, name_number}
 use Rattle.sel_grammar_text.proofs.FormItems.{head_of, tail_of, spots_of, places, spots_so, places_past}
-use Rattle.sel_grammar_text.proofs.FormCuts.{fresh, AllFine, rule_texts, rule_items, declaration_items, declarations_items, text_tokens, rule_places, head_items, last_spot, text_cut, text_fine, fine_text}
+use Rattle.sel_grammar_text.proofs.FormCuts.{fresh, AllFine, rule_texts, rule_items, declarations_items, text_tokens, rule_places, head_items, last_spot, text_cut, text_fine, fine_text}
 use Rattle.sel_grammar_text.proofs.WholeTexts.{no_faults, all_fine, all_pass, passes-split, passes-append, whole_so}
-use Rattle.sel_grammar_text.proofs.SameChecks.{SameRules, SameRule, same_length, bytes_of, same_leaves, same_nonterminals, same_uses, same_first, with_by, with_so}
-use Rattle.sel_grammar_text.proofs.SourceNames.{AllLexed, lexed_first, lexed-split, EntryGood, EntriesGood, good-append, good_declarations, operators-append, rules-append, rules_alone, no_rules, NamesPass, names_pass, entry_passes, AllAmong, among-split, words_among}
-use Rattle.sel_grammar_text.proofs.RulesAgain.{forms_again, RuleGood, RulesGood, rules_good, cuts_rules, rules_fit, rules_small, same_rules, pass_again, rules_say, templates_good}
-
--- Operators.
-
-abbrev term_form : Operator → DeclarationForm
-term_form o = TermForm ((o.name, decimal o.external) ∷ [])
-
-abbrev term_forms : List Operator → List DeclarationForm
-term_forms os = map term_form os
-
--- what is known of an operator of a text
-abbrev OperatorGood : List (Word × ℕ) → Operator → Type 0
-OperatorGood us o = IsName o.name × ((o.external ≤ greatest_external) × (o.arity ≡ first_use us o.name))
-
-abbrev OperatorsGood : List (Word × ℕ) → List Operator → Type 0
-OperatorsGood us [] = Unit {0}
-OperatorsGood us (o ∷ os) = OperatorGood us o × OperatorsGood us os
-
-small_is : (n : ℕ) → nat_le n greatest_external ≡ true → n ≤ greatest_external
-small_is n h = grind (arith, h)
-
-is_small_so : (n : ℕ) → n ≤ greatest_external → nat_le n greatest_external ≡ true
-is_small_so n h = grind (arith, h)
-
-operators_good : (us : List (Word × ℕ)) (items : List Item) → EntriesGood items → OperatorsGood us (operators_of us items)
-operators_good us [] h = tt
-operators_good us (EntryItem name number ∷ items) h = ((h.0.0, (small_is (digits_value 10 number.bytes) h.0.1, refl)), operators_good us items h.1)
-operators_good us (StartItem w ∷ items) h = operators_good us items h.1
-operators_good us (CodeItem ∷ items) h = operators_good us items h.1
-operators_good us (PercentsItem at ∷ items) h = operators_good us items h.1
-operators_good us (RuleItem r ∷ items) h = operators_good us items h.1
-
-names_so : (us : List (Word × ℕ)) (items : List Item) → operator_names (operators_of us items) ≡ operators items
-names_so us [] = refl
-names_so us (EntryItem name number ∷ items) = ap (λ x. name.bytes ∷ x) (names_so us items)
-names_so us (StartItem w ∷ items) = names_so us items
-names_so us (CodeItem ∷ items) = names_so us items
-names_so us (PercentsItem at ∷ items) = names_so us items
-names_so us (RuleItem r ∷ items) = names_so us items
-
-decimal_small : (n : ℕ) → n ≤ greatest_external → digits_value 10 (decimal n) ≡ n
-decimal_small n h = decimal_value n (omega (arith, h))
-
-terms_lawful : (us : List (Word × ℕ)) (os : List Operator) → OperatorsGood us os → AllByRecursion IsDeclaration (term_forms os)
-terms_lawful us [] g = tt
-terms_lawful us (o ∷ os) g =
-    ((subst (λ n. nat_le n greatest_external ≡ true) (sym (decimal_small o.external g.0.1.0)) (is_small_so o.external g.0.1.0), tt), terms_lawful us os g.1)
-
-terms_start_none : (os : List Operator) → starts (term_forms os) ≡ 0
-terms_start_none [] = refl
-terms_start_none (o ∷ os) = terms_start_none os
-
-terms_operators : (ps : List ℕ) (os : List Operator) → operators (declarations_items ps (term_forms os)) ≡ operator_names os
-terms_operators ps [] = refl
-terms_operators ps (o ∷ os) = ap (λ x. o.name ∷ x) (terms_operators (places_past ps (declaration_tokens (term_form o))) os)
-
-operators_of-append : (us : List (Word × ℕ)) (xs ys : List Item) → operators_of us (xs ++ ys) ≡ operators_of us xs ++ operators_of us ys
-operators_of-append us [] ys = refl
-operators_of-append us (EntryItem name number ∷ xs) ys = ap (λ x. record { name = name.bytes; external = digits_value 10 number.bytes; arity = first_use us name.bytes } ∷ x) (operators_of-append us xs ys)
-operators_of-append us (StartItem w ∷ xs) ys = operators_of-append us xs ys
-operators_of-append us (CodeItem ∷ xs) ys = operators_of-append us xs ys
-operators_of-append us (PercentsItem at ∷ xs) ys = operators_of-append us xs ys
-operators_of-append us (RuleItem r ∷ xs) ys = operators_of-append us xs ys
-
-no_operators : (us : List (Word × ℕ)) (ts : List RuleText) → operators_of us (rule_items ts) ≡ []
-no_operators us [] = refl
-no_operators us (t ∷ ts) = no_operators us ts
-
-abbrev made : List ℕ → ℕ → Option ℕ → Operator
-made name external arity = record { name = name; external = external; arity = arity }
-
-terms_say : (us vs : List (Word × ℕ)) (ps : List ℕ) (os : List Operator) → ((name : List ℕ) → first_use us name ≡ first_use vs name) → OperatorsGood us os
-    → operators_of vs (declarations_items ps (term_forms os)) ≡ os
-terms_say us vs ps [] e g = refl
-terms_say us vs ps (o ∷ os) e g =
-    let qs = places_past ps (declaration_tokens (term_form o)) in
-    ap (λ n. made o.name n (first_use vs o.name) ∷ operators_of vs (declarations_items qs (term_forms os))) (decimal_small o.external g.0.1.0)
-    ∙ ap (λ a. made o.name o.external a ∷ operators_of vs (declarations_items qs (term_forms os))) (sym (e o.name) ∙ sym g.0.1.1)
-    ∙ ap (λ x. o ∷ x) (terms_say us vs qs os e g.1)
-
-terms_pass : (before : List Item) (ps : List ℕ) (os : List Operator) → NamesPass (operators before) (operator_names os) → check_all before (declarations_items ps (term_forms os)) ≡ None
-terms_pass before ps [] h = refl
-terms_pass before ps (o ∷ os) h =
-    let qs = places_past ps (declaration_tokens (term_form o)) in
-    let item = EntryItem (word (head_of (tail_of ps)) o.name) (word (head_of (tail_of (tail_of (tail_of ps)))) (decimal o.external)) in
-    ap (λ x. or_fault x (check_all (before ++ (item ∷ [])) (declarations_items qs (term_forms os))))
-    (entry_passes before (word (head_of (tail_of ps)) o.name) (word (head_of (tail_of (tail_of (tail_of ps)))) (decimal o.external)) h.0.0 h.0.1)
-    ∙ terms_pass (before ++ (item ∷ [])) qs os (subst (λ x. NamesPass x (operator_names os)) (sym (operators-append before (item ∷ []))) h.1)
-
-with_head : (P : List Token → Type 0) (ts : List Token) (x : Token) (xs : List Token) → ((y : Token) (ys : List Token) → P (y ∷ ys)) → P (ts ++ (x ∷ xs))
-with_head P [] x xs f = f x xs
-with_head P (t ∷ ts) x xs f = f t (ts ++ (x ∷ xs))
-
-cuts_terms : (us : List (Word × ℕ)) (os : List Operator) (more : List ℕ) (x : Token) (xs : List Token) (rest : List ℕ) → OperatorsGood us os → CutsInto more (x ∷ xs) rest
-    → CutsInto (flat_map printed_operator os ++ more) (flat_map declaration_tokens (term_forms os) ++ (x ∷ xs)) rest
-cuts_terms us [] more x xs rest g k = k
-cuts_terms us (o ∷ os) more x xs rest g k =
-    let texts = flat_map printed_operator os in let forms = flat_map declaration_tokens (term_forms os) in
-    subst (λ y. CutsInto y (Term ∷ Name o.name ∷ Equals ∷ Integer (decimal o.external) ∷ (forms ++ (x ∷ xs))) rest) (sym (regroup o.name (decimal o.external) texts more))
-    (with_head (λ ts. CutsInto (texts ++ more) ts rest → CutsInto (codes "%term " ++ (o.name ++ (codes "=" ++ (decimal o.external ++ (codes "\n" ++ (texts ++ more)))))) (Term ∷ Name o.name ∷ Equals ∷ Integer (decimal o.external) ∷ ts) rest)
-    forms x xs (λ y ys. cuts_entry o.name (decimal o.external) (texts ++ more) y ys rest g.0.0 (decimal_number o.external (omega (arith, g.0.1.0)))) (cuts_terms us os more x xs rest g.1 k))
-  where
-    regroup : (n d texts more : List ℕ) → ((codes "%term " ++ (n ++ (codes "=" ++ (d ++ codes "\n")))) ++ texts) ++ more ≡ codes "%term " ++ (n ++ (codes "=" ++ (d ++ (codes "\n" ++ (texts ++ more)))))
-    regroup n d texts more = simp append_assoc refl
+use Rattle.sel_grammar_text.proofs.SameChecks.{SameRules, same_length, bytes_of, same_leaves, same_nonterminals, same_uses, same_first, with_by, with_so}
+use Rattle.sel_grammar_text.proofs.SourceNames.{AllLexed, lexed_first, lexed-split, EntriesGood, good-append, good_declarations, operators-append, rules-append, rules_alone, no_rules, NamesPass, names_pass, AllAmong, among-split, words_among}
+use Rattle.sel_grammar_text.proofs.RulesAgain.{forms_again, RulesGood, rules_good, cuts_rules, rules_fit, rules_small, same_rules, pass_again, rules_say, templates_good}
+use Rattle.sel_grammar_text.proofs.OperatorsAgain.{term_form, term_forms, OperatorsGood, operators_good, names_so, terms_lawful, terms_start_none, terms_operators, operators_of-append, no_operators, terms_say, terms_pass, with_head, cuts_terms}
 
 -- Nonterminals that have rules.
 

@@ -1,37 +1,34 @@
 -- The rules of a text are printed, and read again.
-use Rattle.std.proofs.Common.{◌≡◌, ℕ, suc, zero, ◌+◌, ◌≤◌, ◌<◌, List, [], ◌∷◌, ◌++◌, Option, Some, None, Bool, true, false, not, length, refl, ap, sym, ◌∙◌, subst, arith, cond, eqb, ◌||◌, ◌&&◌, append_assoc, append-nil, inl, inr, map}
-use Rattle.std.specs.Prelude.{codes, decimal, bytes_eq, nat_le}
+use Rattle.std.proofs.Common.{◌≡◌, ℕ, ◌+◌, ◌≤◌, List, [], ◌∷◌, ◌++◌, Option, Some, None, true, refl, ap, sym, ◌∙◌, subst, arith, cond, append_assoc, append-nil, map}
+use Rattle.std.specs.Prelude.{codes, nat_le}
 use Rattle.std.specs.List.{flat_map, AllByRecursion}
 use Rattle.std.specs.Str.Parse.{digits_value}
 use Rattle.std.proofs.lemmas.List.{map-append}
 use Rattle.sel_base.specs.declared.range.Range.{Range}
 use Rattle.sel_grammar.specs.Limits.{greatest_external}
-use Rattle.sel_grammar.specs.declared.grammar.Operator.{Operator}
 use Rattle.sel_grammar.specs.declared.grammar.Part.{Part}
 use Rattle.sel_grammar.specs.declared.grammar.Pattern.{Pattern}
 use Rattle.sel_grammar.specs.declared.grammar.Rule.{Rule}
-use Rattle.sel_grammar_text.specs.Tokens.{Token, Name, Integer, Quoted, Start, Term, Percents, Colon, Equals, End}
-use Rattle.sel_grammar_text.specs.Form.{below, pattern_tokens, DeclarationForm, StartForm, TermForm, declaration_tokens, TailForm, OneLineForm, BurgForm, tail_tokens, RuleForm, rule_tokens, is_small, IsSmall, IsTail}
-use Rattle.sel_grammar_text.specs.Items.{Word, word, CostText, TailText, OneLine, Burg, RuleText, Item, RuleItem}
-use Rattle.sel_grammar_text.specs.Names.{is_among, number_of, operators, rules, leaves, nonterminal_words, uses}
-use Rattle.sel_grammar_text.specs.Patterns.{built, numbered, pattern_of}
-use Rattle.sel_grammar_text.specs.Checks.{begins_reserved, template_form, cost_large, large_in_tail}
+use Rattle.sel_grammar_text.specs.Tokens.{Token, Name, Colon}
+use Rattle.sel_grammar_text.specs.Form.{below, pattern_tokens, TailForm, OneLineForm, BurgForm, tail_tokens, RuleForm, rule_tokens, is_small, IsTail}
+use Rattle.sel_grammar_text.specs.Items.{Word, TailText, OneLine, Burg, RuleText, Item, RuleItem}
+use Rattle.sel_grammar_text.specs.Names.{is_among, number_of, operators, rules, nonterminal_words, uses}
+use Rattle.sel_grammar_text.specs.Patterns.{built, pattern_of}
+use Rattle.sel_grammar_text.specs.Checks.{begins_reserved, large_in_tail}
 use Rattle.sel_grammar_text.specs.TemplateText.{pieces, bad_sign}
 use Rattle.sel_grammar_text.specs.Faults.{or_fault}
 use Rattle.sel_grammar_text.specs.ItemFaults.{check, check_all}
 use Rattle.sel_grammar_text.specs.Meaning.{cost_number, range_of, parts_of_tail, external_of, rule_of}
 use Rattle.sel_grammar_text.specs.Printing.{AreParts}
-use Rattle.sel_grammar_text.specs.PrintedGrammar.{name_at, printed_pattern, printed_tail, printed_rule, printed_operator, without_place}
+use Rattle.sel_grammar_text.specs.PrintedGrammar.{name_at, printed_pattern, printed_tail, printed_rule, without_place}
 use Rattle.sel_grammar_text.specs.declared.fault.Fault.{Fault}
-use Rattle.sel_grammar_text.proofs.Printed.{Stops}
-use Rattle.sel_grammar_text.proofs.PrintedTokens.{CutsInto, cuts_rule, cuts_entry, IsName, patterns_text}
-use Rattle.sel_grammar_text.proofs.PrintedCosts.{decimal_number}
+use Rattle.sel_grammar_text.proofs.PrintedTokens.{CutsInto, cuts_rule, patterns_text}
 use Rattle.sel_grammar_text.proofs.PrintedTemplates.{read_so}
 use Rattle.sel_grammar_text.proofs.PrintedTails.{TailGood, tail_again, TailRead, tail_read, tail_last_fine, tail_small, bytes_of_tail, cuts_tail, stops_tail, printed_tail_so}
 use Rattle.sel_grammar_text.proofs.PatternTexts.{name_number, numbered_plain, numbered_so, NodesFit, pattern_prints}
 use Rattle.sel_grammar_text.proofs.FormItems.{head_of, tail_of, places_past, plain_names, kid_count, preorder, rule_pattern, tail_text, tail_places, rule_tail}
 use Rattle.sel_grammar_text.proofs.FormCuts.{NamesFit, LastFine, RulesFit, RulesFitted, rule_text, rule_texts, rule_items}
-use Rattle.sel_grammar_text.proofs.SameChecks.{SameRule, SameRules, same-append, bytes_of, leaves_by, leaves_so, NoneWrong, to_none_wrong, Checked, to_checked, InTemplate, seen, checked_again}
+use Rattle.sel_grammar_text.proofs.SameChecks.{SameRule, SameRules, same-append, bytes_of, leaves_so, NoneWrong, to_none_wrong, Checked, to_checked, InTemplate, seen, checked_again}
 use Rattle.sel_grammar_text.proofs.SourceNames.{AllLexed, lexed-split, RuleNamed, lexed_rule, operators-append, rules-append, AllAmong, among-split, nodes_fit}
 
 -- the form in which a rule is printed

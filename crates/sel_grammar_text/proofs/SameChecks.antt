@@ -1,19 +1,19 @@
 -- Checks see of rules only their names, numbers of kids, templates and values.
-use Rattle.std.proofs.Common.{◌≡◌, ℕ, suc, zero, ◌+◌, ◌-◌, ◌≤◌, ◌<◌, List, [], ◌∷◌, ◌++◌, Option, Some, None, Bool, true, false, not, length, refl, ap, sym, ◌∙◌, subst, arith, cond, eqb, ◌||◌, ◌&&◌, append_assoc, inl, inr, map}
+use Rattle.std.proofs.Common.{◌≡◌, ℕ, suc, List, [], ◌∷◌, ◌++◌, Option, Some, None, Bool, true, false, not, length, refl, ap, sym, ◌∙◌, subst, cond, eqb, ◌||◌, ◌&&◌, map}
 use Rattle.std.specs.Prelude.{nat_le, nat_lt, bytes_eq}
 use Rattle.std.specs.List.{flat_map}
-use Rattle.std.proofs.lemmas.List.{map-append, length-map}
+use Rattle.std.proofs.lemmas.List.{map-append}
 use Rattle.sel_grammar.specs.Limits as limits
 use Rattle.sel_grammar.specs.Limits.{most_rules, most_nonterminals, most_kids, most_operators}
-use Rattle.sel_grammar_text.specs.Items.{Word, word, CostText, TailText, OneLine, Burg, RuleText, Item, StartItem, EntryItem, CodeItem, PercentsItem, RuleItem}
+use Rattle.sel_grammar_text.specs.Items.{Word, CostText, TailText, OneLine, Burg, RuleText, Item, RuleItem}
 use Rattle.sel_grammar_text.specs.Names.{is_among, operators, rules, leaves, nonterminal_words, with_words, nonterminals, uses, first_use}
-use Rattle.sel_grammar_text.specs.Checks.{place_if, duplicate_term, too_many_items, term_on_left, past_most, too_many_nonterminals, differs, has_wrong_kids, first_wrong_kids, arity, begins_reserved, in_template, template_form, is_past_kid, kid_number, result_in_fragment, is_nullary, range_at, range_place, large_in_tail, cost_large}
+use Rattle.sel_grammar_text.specs.Checks.{place_if, duplicate_term, too_many_items, term_on_left, past_most, too_many_nonterminals, differs, has_wrong_kids, first_wrong_kids, arity, begins_reserved, template_form, is_past_kid, kid_number, result_in_fragment, is_nullary, range_at, range_place, large_in_tail, cost_large}
 use Rattle.sel_grammar_text.specs.Faults.{fault_at, or_fault}
-use Rattle.sel_grammar_text.specs.ItemFaults.{check, check_all}
+use Rattle.sel_grammar_text.specs.ItemFaults.{check}
 use Rattle.sel_grammar_text.specs.TemplateText.{pieces, bad_sign, first_sign, ends_line}
 use Rattle.sel_grammar_text.specs.declared.fault.Fault.{Fault}
 use Rattle.sel_grammar_text.proofs.FormItems.{plain_names}
-use Rattle.sel_grammar_text.proofs.PrintedTemplates.{plain, NoSign, to_no_sign, from_no_sign, ends_plainly, ends_so, IsReadAgain}
+use Rattle.sel_grammar_text.proofs.PrintedTemplates.{NoSign, to_no_sign, from_no_sign, ends_plainly, ends_so, IsReadAgain}
 
 -- two rules with the same names and numbers of kids
 pub record SameRule (r s : RuleText) : Type 0 where

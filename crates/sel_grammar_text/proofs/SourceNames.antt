@@ -1,28 +1,27 @@
 -- What a text's tokens and checks tell of its names.
-use Rattle.std.proofs.Common.{◌≡◌, ℕ, suc, zero, ◌+◌, ◌≤◌, ◌<◌, List, [], ◌∷◌, ◌++◌, Option, Some, None, Bool, true, false, not, length, take, drop, ◌-◌, refl, ap, sym, ◌∙◌, subst, arith, cond, eqb, ◌||◌, ◌&&◌, append_assoc, append-nil, inl, inr, map}
+use Rattle.std.proofs.Common.{◌≡◌, ℕ, suc, zero, ◌+◌, ◌≤◌, List, [], ◌∷◌, ◌++◌, Option, Some, None, Bool, true, false, not, length, take, drop, ◌-◌, refl, ap, sym, ◌∙◌, subst, arith, cond, eqb, ◌||◌, ◌&&◌, append-nil, inl, inr}
 use Rattle.std.specs.Prelude.{codes, bytes_eq, nat_le, nat_lt, take_while}
-use Rattle.std.specs.List.{flat_map, list_any, prefix_len, starts_with, AllByRecursion}
+use Rattle.std.specs.List.{flat_map, prefix_len, starts_with, AllByRecursion}
 use Rattle.std.specs.Char.{is_ascii_digit}
 use Rattle.std.proofs.Math.Numerals.{one-add}
-use Rattle.std.proofs.lemmas.List.{map-append}
-use Rattle.sel_grammar.specs.Limits.{most_operators, most_kids, most_nonterminals}
+use Rattle.sel_grammar.specs.Limits.{most_operators, most_kids}
 use Rattle.sel_grammar.specs.Names.{is_letter, is_name_byte}
 use Rattle.sel_grammar_text.specs.Blanks.{skip, behind_pair}
-use Rattle.sel_grammar_text.specs.Tokens.{Token, Name, Integer, Quoted, Unclosed, Start, Term, Percents, Code, OpenCode, Colon, Equals, Open, Close, Comma, Semi, Bad, End, token_of, inside_len, is_on_line, quoted, percent, mark, option_cases}
-use Rattle.sel_grammar_text.specs.Form.{Patterns, no_patterns, pattern, Side, below, beside, pattern_tokens, DeclarationForm, StartForm, TermForm, CodeForm, entry_tokens, declaration_tokens, TailForm, OneLineForm, BurgForm, tail_tokens, RuleForm, rule_tokens, IsSmall, IsDeclaration}
-use Rattle.sel_grammar_text.specs.Items.{Word, word, RuleText, Item, StartItem, EntryItem, CodeItem, PercentsItem, RuleItem}
+use Rattle.sel_grammar_text.specs.Tokens.{Token, Name, Unclosed, Start, Term, Percents, Code, OpenCode, Colon, Equals, Open, Close, Comma, Semi, Bad, token_of, inside_len, quoted, percent, mark, option_cases}
+use Rattle.sel_grammar_text.specs.Form.{Patterns, no_patterns, pattern, Side, below, beside, pattern_tokens, DeclarationForm, StartForm, TermForm, CodeForm, entry_tokens, declaration_tokens, tail_tokens, RuleForm, rule_tokens, IsSmall, IsDeclaration}
+use Rattle.sel_grammar_text.specs.Items.{Word, RuleText, Item, StartItem, EntryItem, CodeItem, PercentsItem, RuleItem}
 use Rattle.sel_grammar_text.specs.Names.{is_among, operators, rules, nonterminal_words, nonterminals}
-use Rattle.sel_grammar_text.specs.Spots.{Spot, spot, first, behind, tokens}
-use Rattle.sel_grammar_text.specs.Checks.{place_if, duplicate_term, too_many_items, differs}
+use Rattle.sel_grammar_text.specs.Spots.{first, behind, tokens}
+use Rattle.sel_grammar_text.specs.Checks.{place_if, differs}
 use Rattle.sel_grammar_text.specs.Faults.{or_fault}
 use Rattle.sel_grammar_text.specs.ItemFaults.{check, check_all}
 use Rattle.sel_grammar_text.specs.declared.fault.Fault.{Fault}
 use Rattle.sel_grammar_text.proofs.Printed.{Each}
 use Rattle.sel_grammar_text.proofs.PrintedTokens.{IsName, HaveNames}
-use Rattle.sel_grammar_text.proofs.PatternTexts.{bytes_same, NodeFits, NodesFit}
-use Rattle.sel_grammar_text.proofs.FormItems.{plain_names, head_of, tail_of, places_past}
-use Rattle.sel_grammar_text.proofs.FormCuts.{rule_items, entry_items, declaration_items, declarations_items}
-use Rattle.sel_grammar_text.proofs.SameChecks.{bytes_of, leaves_by, leaves_so, with_by, with_so, first_by, wrong_by, NoneWrong, Checked, to_checked, from_checked}
+use Rattle.sel_grammar_text.proofs.PatternTexts.{bytes_same, NodesFit}
+use Rattle.sel_grammar_text.proofs.FormItems.{tail_of, places_past}
+use Rattle.sel_grammar_text.proofs.FormCuts.{rule_items, entry_items, declarations_items}
+use Rattle.sel_grammar_text.proofs.SameChecks.{bytes_of, leaves_by, with_by, with_so, first_by, NoneWrong, to_checked, from_checked}
 
 -- Names are names.
 

@@ -1,14 +1,10 @@
 -- Templates part by part.
-use Rattle.std.proofs.Common.{◌≡◌, ℕ, ◌+◌, ◌-◌, ◌≤◌, List, [], ◌∷◌, ◌++◌, Bool, true, false, refl, ap, sym, ◌∙◌, subst, arith, cond, eqb, append_assoc, append-nil, inl, inr}
-use Rattle.std.specs.List.{flat_map}
-use Rattle.std.proofs.lemmas.Fmt.{decimal_digit}
+use Rattle.std.proofs.Common.{◌≡◌, ℕ, List, [], ◌∷◌, ◌++◌, Bool, true, false, refl, ap, sym, ◌∙◌, cond, eqb, append_assoc, append-nil, inl, inr}
 use Rattle.std.proofs.lemmas.Bool.{eqb-true}
 use Rattle.std.proofs.lemmas.Bool.Decides.{eqb_tells}
 use Rattle.sel_grammar.specs.declared.grammar.Part.{Part}
 use Rattle.sel_grammar.specs.declared.grammar.Part.TheVariants.{Text, Kid, Attribute, Temp}
-use Rattle.sel_grammar_text.specs.declared.template.TemplatePiece.TheVariants.{Byte, Sign, LoneSign}
-use Rattle.sel_grammar_text.specs.TemplateText.{pieces, unescape, parts_of, add_byte, begins_with_text, text_part, add_bytes}
-use Rattle.sel_grammar_text.specs.Printing.{printed_byte, printed_template, AreParts}
+use Rattle.sel_grammar_text.specs.TemplateText.{add_byte, begins_with_text, text_part, add_bytes}
 
 by_bool : (t : Bool) (x y : List ℕ) (P : List ℕ → Type 0) → (t ≡ true → P x) → (t ≡ false → P y) → P (cond t x y)
 by_bool true x y P f g = f refl

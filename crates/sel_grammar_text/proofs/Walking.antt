@@ -78,7 +78,7 @@ more_is : (all : ℕ) (bytes rest from more : List ℕ) (t : Token) (at k : ℕ)
 more_is all bytes rest from more t at k e r = e.more_is ∙ ap behind r ∙ sym (after-snoc k bytes)
 
 -- one more token
-run_one : (ts : List Token) (t : Token) (s : State) → run ts begin ≡ Some s → run (ts ++ t ∷ []) begin ≡ step s t
+pub run_one : (ts : List Token) (t : Token) (s : State) → run ts begin ≡ Some s → run (ts ++ t ∷ []) begin ≡ step s t
 run_one ts t s h = run-append ts (t ∷ []) begin ∙ ap (go (run (t ∷ []))) h ∙ gone (step s t)
   where
     gone : (o : Option State) → go (run []) o ≡ o

@@ -1,32 +1,30 @@
 -- A whole text without a fault, by its tokens, its items and its checks.
 use Rattle.std.proofs.Common.{◌≡◌, ℕ, suc, zero, ◌+◌, ◌≤◌, ◌<◌, List, [], ◌∷◌, ◌++◌, Option, Some, None, Bool, true, false, length, refl, ap, sym, ◌∙◌, subst, arith, cond, eqb, ◌&&◌, ◌⊎◌, append_assoc, inl, inr}
-use Rattle.std.specs.Prelude.{nat_lt}
 use Rattle.std.proofs.lemmas.List.{map-append}
 use Rattle.std.proofs.lemmas.Bool.{eqb-true}
 use Rattle.std.proofs.Math.Nat.{eq-or-lt_of_le}
 use Rattle.sel_grammar.specs.Limits as limits
 use Rattle.sel_grammar.specs.Limits.{most_names}
 use Rattle.sel_grammar_text.specs.Blanks.{skip}
-use Rattle.sel_grammar_text.specs.Tokens.{Token, Name, Integer, Quoted, Unclosed, Start, Term, Percents, Code, OpenCode, Colon, Equals, Open, Close, Comma, Semi, Bad, End, token_of}
+use Rattle.sel_grammar_text.specs.Tokens.{Token, Name, Integer, Quoted, Unclosed, Code, Open, Close, token_of}
 use Rattle.sel_grammar_text.specs.Form.{IsText, GoesOn}
 use Rattle.sel_grammar_text.specs.Items.{Item}
 use Rattle.sel_grammar_text.specs.CostText.{wrong_cost}
 use Rattle.sel_grammar_text.specs.Spots.{Spot, spot, first, after, behind, tokens, first_spots, here}
-use Rattle.sel_grammar_text.specs.Cutting.{ends, item_of, Cutting, with_spot, cut_on, cutting}
+use Rattle.sel_grammar_text.specs.Cutting.{ends, item_of, Cutting, cut_on, cutting}
 use Rattle.sel_grammar_text.specs.Faults.{fault, fault_if, fault_at, or_fault}
-use Rattle.sel_grammar_text.specs.FormFaults.{FormFault, unclosed_quote, open_code, stray, name_too_many, bad_string, cost_line, cost_list, bad_byte, pattern_names, is_integer, is_comma, token_in, behind_further, closes, is_cost_list, ends_integer, HasFormFault}
+use Rattle.sel_grammar_text.specs.FormFaults.{name_too_many, bad_string, cost_line, bad_byte, pattern_names, is_integer, is_comma, token_in, behind_further, closes, is_cost_list, ends_integer, HasFormFault}
 use Rattle.sel_grammar_text.specs.FormDecision.{accepted_fault, judged, stray_place, open_string_fault, is_unclosed, decided_fault}
 use Rattle.sel_grammar_text.specs.ItemFaults.{check, check_all}
-use Rattle.sel_grammar_text.specs.GrammarText.{HasFault, IsSoundUpTo, IsWhole}
-use Rattle.sel_grammar_text.specs.Machine.{after_pattern, step, run, go, begin}
+use Rattle.sel_grammar_text.specs.GrammarText.{HasFault, IsWhole}
+use Rattle.sel_grammar_text.specs.Machine.{step, run, go, begin}
 use Rattle.sel_grammar_text.specs.declared.fault.Fault.{Fault}
 use Rattle.sel_grammar_text.specs.declared.form.State.{State}
-use Rattle.sel_grammar_text.specs.declared.form.State.TheVariants.{Declaring, Starting, Entering, Equating, Ruling, LeftName, Wanted, Named, Closed, External, Numbered, Pricing, Priced, Finishing, Ended}
+use Rattle.sel_grammar_text.specs.declared.form.State.TheVariants.{Declaring, Wanted, Named, Closed, Numbered, Pricing, Priced, Ended}
 use Rattle.sel_grammar_text.proofs.FormSound.{run-append}
 use Rattle.sel_grammar_text.proofs.FormComplete.{complete, goes_on, stops}
 use Rattle.sel_grammar_text.proofs.Decided.{undecided, no_unclosed}
 use Rattle.sel_grammar_text.proofs.Steps.{first-snoc, after-snoc, tokens-snoc, cutting-snoc}
-use Rattle.sel_grammar_text.proofs.FormItems.{cut_on-append}
 use Rattle.sel_grammar_text.proofs.FormCuts.{FormFine, AllFine, fine-append, fine-split, fresh}
 
 -- Fronts.

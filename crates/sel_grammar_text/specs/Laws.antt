@@ -1,12 +1,8 @@
 -- Laws of the definitions.
-use Rattle.std.specs.Prelude.{◌≡◌, ℕ, List, Some, None}
-use Rattle.std.specs.List.{AllByRecursion}
+use Rattle.std.specs.Prelude.{◌≡◌, ℕ, List, ◌⊎◌, Some, None}
 use Rattle.sel_grammar.specs.declared.grammar.Grammar.{Grammar}
-use Rattle.sel_grammar.specs.declared.grammar.Rule.{Rule}
 use Rattle.sel_grammar.specs.declared.refusal.GrammarFault.{GrammarFault}
 use Rattle.sel_grammar_text.specs.Tokens.{Token}
-use Rattle.sel_grammar_text.specs.Printing.{AreParts}
-use Rattle.sel_grammar_text.specs.PrintedGrammar.{printed, SpellsAgain}
 use Rattle.sel_grammar_text.specs.Form.{IsText, GoesOn}
 use Rattle.sel_grammar_text.specs.Machine.{run, begin}
 use Rattle.sel_grammar_text.specs.GrammarText.{SpellsGrammar, IsGrammarFault}
@@ -25,6 +21,10 @@ GrammarFaultIsOne = (bytes : List ℕ) (e f : GrammarFault) → IsGrammarFault b
 abbrev pub NotGrammarAndFault : Type 0
 NotGrammarAndFault = (bytes : List ℕ) (g : Grammar) (f : GrammarFault) → SpellsGrammar bytes g → IsGrammarFault bytes f → ⊥
 
+-- each text spells some grammar or has some fault
+abbrev pub SomeGrammarOrFault : Type 0
+SomeGrammarOrFault = (bytes : List ℕ) → ((g : Grammar) × SpellsGrammar bytes g) ⊎ ((f : GrammarFault) × IsGrammarFault bytes f)
+
 -- where there is a state behind the tokens, some text goes on with them
 abbrev pub StateGoesOn : Type 0
 StateGoesOn = (ts : List Token) (s : State) → run ts begin ≡ Some s → GoesOn ts
@@ -39,11 +39,3 @@ EndIsText = (ts : List Token) → run ts begin ≡ Some Ended → IsText ts
 
 abbrev pub TextIsEnd : Type 0
 TextIsEnd = (ts : List Token) → IsText ts → run ts begin ≡ Some Ended
-
--- what is printed of a grammar that a text spells is a text of the same grammar, but for the places of rules
-abbrev pub PrintedIsRead : Type 0
-PrintedIsRead = (source : List ℕ) (g : Grammar) → SpellsGrammar source g → SpellsAgain (printed g) g
-
--- the templates of a grammar that a text spells have no empty text and no two texts side by side, and name kids by one digit
-abbrev pub TemplatesAreParts : Type 0
-TemplatesAreParts = (source : List ℕ) (g : Grammar) → SpellsGrammar source g → AllByRecursion (λ (rule : Rule). AreParts rule.template.parts) g.rules

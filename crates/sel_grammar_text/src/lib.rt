@@ -16,6 +16,7 @@ mod number;
 mod pattern;
 mod place;
 mod print;
+pub mod print_laws;
 mod read;
 mod scan;
 mod strings;

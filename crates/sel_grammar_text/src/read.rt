@@ -6,6 +6,7 @@ ghost use Rattle.sel_grammar_text.specs.Extents.{StandsAtItem, HasExtent};
 ghost use Rattle.sel_grammar_text.specs.GrammarText.{SpellsGrammar, GrammarRefusedFor};
 ghost use Rattle.sel_grammar_text.specs.Machine.{is_border};
 ghost use Rattle.sel_grammar_text.specs.Reading.{IsReading, IsTaken, StopsFor};
+ghost use Rattle.sel_grammar_text.specs.declared.read.Stop.TheVariants as Stop;
 
 use crate::checks::check;
 use crate::fault::Fault;
