@@ -40,3 +40,9 @@ pub mod ItemLists
 pub mod NumberStays
 pub mod Passes
 pub mod TableSteps
+pub mod RuleChecks
+pub mod FromTables
+pub mod ItemWords
+pub mod Suffixes
+pub mod ReadSteps
+pub mod Ready

@@ -35,9 +35,11 @@ among_added names name = go (is_among names name) refl
     or_true : (x y : Bool) → y ≡ true → (x || y) ≡ true
     or_true true y h = refl
     or_true false y h = h
+
     last : (ns : List (List ℕ)) → is_among (ns ++ (name ∷ [])) name ≡ true
     last [] = rw ((bytes_eq-Decides name name).1 refl) refl
     last (n ∷ ns) = or_true (bytes_eq n name) (is_among (ns ++ (name ∷ [])) name) (last ns)
+
     go : (b : Bool) → is_among names name ≡ b → is_among (cond b names (names ++ (name ∷ []))) name ≡ true
     go true h = h
     go false h = last names

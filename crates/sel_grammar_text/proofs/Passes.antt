@@ -48,8 +48,16 @@ passes before item h =
     let i = both_none limits.result_in_fragment (checks.result_in_fragment before item) _ g.1 in
     let j = both_none limits.range_place (checks.range_place before item) _ i.1 in
     record {
-      duplicate_term = a.0; too_many_items = b.0; term_on_left = c.0; too_many_nonterminals = d.0; arity = e.0; template_form = f.0; kid_number = g.0;
-      result_in_fragment = i.0; range_place = j.0; cost_large = one_none limits.cost_large (checks.cost_large before item) j.1;
+      duplicate_term = a.0;
+      too_many_items = b.0;
+      term_on_left = c.0;
+      too_many_nonterminals = d.0;
+      arity = e.0;
+      template_form = f.0;
+      kid_number = g.0;
+      result_in_fragment = i.0;
+      range_place = j.0;
+      cost_large = one_none limits.cost_large (checks.cost_large before item) j.1;
     }
 
 -- what the check of the numbers of kids lets through
@@ -68,6 +76,7 @@ kids_pass ops earlier (n ∷ names) h = go (is_among ops n.0.bytes) refl (has_wr
         or_false true e k = absurd (cc)
         or_false false e k = grind (arith, e)
     first false k = ((λ no. grind (arith, k)), grind (arith, k))
+
     go : (b : Bool) → is_among ops n.0.bytes ≡ b → (w : Bool) → has_wrong_kids ops earlier n ≡ w → cond w (Some n.0.at) (first_wrong_kids ops (earlier ++ (n ∷ [])) names) ≡ None
         → (first_wrong_kids ops (earlier ++ (n ∷ [])) names ≡ None → KidsPass ops names) → KidsPass ops (n ∷ names)
     go b e true f k more = absurd (cc)

@@ -84,9 +84,9 @@ means_entry bytes before name number t u m passed alone a =
     let o : operators (before ++ (item ∷ [])) ≡ operators before ++ (name.bytes ∷ []) = operators-append before (item ∷ []) in
     let known : operators_of (uses (rules before)) before ≡ operators_of [] before = ap (λ rs. operators_of (uses rs) before) alone in
     let few : length t.operators.items + 1 ≤ most_operators =
-        few_more _ (length t.operators.items) name.at
-        (ap (λ n. nat_le most_operators n) (ap length m.operators_are ∙ sym (length-map (operators_of (uses (rules before)) before) (λ o. o.name)) ∙ ap length (operator_names_of (uses (rules before)) before)))
-        (passes before item passed).too_many_items in
+    few_more _ (length t.operators.items) name.at
+    (ap (λ n. nat_le most_operators n) (ap length m.operators_are ∙ sym (length-map (operators_of (uses (rules before)) before) (λ o. o.name)) ∙ ap length (operator_names_of (uses (rules before)) before)))
+    (passes before item passed).too_many_items in
     record {
       start_is = ap (λ x. option_map view_word x.start) a.rest ∙ m.start_is ∙ or_none (start_word before) ∙ sym (start_word-append before (item ∷ []));
       operators_are = rw r (a.operators_so ∙ ap (λ x. x ++ (record { name = name.bytes; external = digits_value 10 number.bytes; arity = None } ∷ [])) (m.operators_are ∙ known) ∙ sym (operators_of-append [] before (item ∷ [])));
@@ -120,7 +120,7 @@ means_rule bytes before r line column t u m passed placed a =
     let ws = nonterminal_words (operators before) r in
     let whole = with_words (nonterminals before) ws in
     let nts : nonterminals (before ++ (item ∷ [])) ≡ with_words (nonterminals before) ws =
-        rw (o, rs, flat_map-snoc (nonterminal_words (operators before)) (rules before) r) (with_words-append [] (flat_map (nonterminal_words (operators before)) (rules before)) ws) in
+    rw (o, rs, flat_map-snoc (nonterminal_words (operators before)) (rules before) r) (with_words-append [] (flat_map (nonterminal_words (operators before)) (rules before)) ws) in
     let new : u.nonterminals.items ≡ with_words (nonterminals before) ws = a.nonterminals_so ∙ ap (λ x. with_words x (nonterminal_words (operator_names t.operators.items) r)) m.nonterminals_are ∙ ap (λ x. with_words (nonterminals before) (nonterminal_words x r)) ops in
     let kids = kids_pass (operators before) (uses (rules before)) r.pattern p.arity in
     let settled = rule_settled (operators before) (nonterminals before) r kids.right in
@@ -132,10 +132,10 @@ means_rule bytes before r line column t u m passed placed a =
       lefts_are = rw rs (a.lefts_so ∙ ap (λ x. x ++ (r.left ∷ [])) m.lefts_are ∙ sym (map-append (λ x. x.left) (rules before) (r ∷ [])));
       rules_are = λ later.
           let said : rule_at line column (operator_names t.operators.items) u.nonterminals.items r ≡ rule_of bytes (operators before) (with_words whole later) r =
-              ap (λ x. rule_at line column x u.nonterminals.items r) ops ∙ ap (λ x. rule_at line column (operators before) x r) new ∙ sym (rule_stays line column (operators before) whole later r settled.0 settled.1)
-              ∙ ap (λ x. rule_at x column (operators before) (with_words whole later) r) placed.0 ∙ ap (λ x. rule_at (line_of bytes r.left.at) x (operators before) (with_words whole later) r) placed.1 in
+          ap (λ x. rule_at line column x u.nonterminals.items r) ops ∙ ap (λ x. rule_at line column (operators before) x r) new ∙ sym (rule_stays line column (operators before) whole later r settled.0 settled.1)
+          ∙ ap (λ x. rule_at x column (operators before) (with_words whole later) r) placed.0 ∙ ap (λ x. rule_at (line_of bytes r.left.at) x (operators before) (with_words whole later) r) placed.1 in
           let earlier : t.rules.items ≡ map (rule_of bytes (operators before) (with_words whole later)) (rules before) =
-              m.rules_are (ws ++ later) ∙ ap (λ x. map (rule_of bytes (operators before) x) (rules before)) (with_words-append (nonterminals before) ws later) in
+          m.rules_are (ws ++ later) ∙ ap (λ x. map (rule_of bytes (operators before) x) (rules before)) (with_words-append (nonterminals before) ws later) in
           a.rules_so
           ∙ ap (λ x. x ++ (rule_at line column (operator_names t.operators.items) u.nonterminals.items r ∷ [])) earlier
           ∙ ap (λ x. map (rule_of bytes (operators before) (with_words whole later)) (rules before) ++ (x ∷ [])) said

@@ -1,10 +1,15 @@
 -- The fault of an item that has none of form: that of the first check, in this order, that gives a place.
-use Rattle.std.specs.Prelude.{List, [], ◌∷◌, ◌++◌, Option, None}
+use Rattle.std.specs.Prelude.{◌≡◌, ℕ, List, [], ◌∷◌, ◌++◌, Option, Some, None}
 use Rattle.sel_grammar.specs.Limits as limits
 use Rattle.sel_grammar_text.specs.Items.{Item}
 use Rattle.sel_grammar_text.specs.Faults.{fault_at, or_fault}
 use Rattle.sel_grammar_text.specs.Checks.{duplicate_term, too_many_items, term_on_left, too_many_nonterminals, arity, template_form, kid_number, result_in_fragment, range_place, cost_large}
 use Rattle.sel_grammar_text.specs.declared.fault.Fault.{Fault}
+
+-- the first of some places, each with its kind
+abbrev pub first_fault : List (ℕ × Option ℕ) → Option Fault
+first_fault [] = None
+first_fault (p ∷ places) = or_fault (fault_at p.0 p.1) (first_fault places)
 
 unfoldable pub check : List Item → Item → Option Fault
 check before item =

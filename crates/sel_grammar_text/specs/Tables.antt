@@ -26,6 +26,11 @@ abbrev pub or_word : Option Word → Option Word → Option Word
 or_word None other = other
 or_word (Some w) other = Some w
 
+-- the number of the start symbol, which is the first rule's left name where none is declared
+abbrev pub start_number : List (List ℕ) → Option Word → ℕ
+start_number names None = 0
+start_number names (Some w) = number_of names w.bytes
+
 abbrev pub operator_names : List Operator → List (List ℕ)
 operator_names ops = map (λ o. o.name) ops
 
@@ -41,6 +46,16 @@ rule_at line column ops nts r = record {
   line = line;
   column = column;
 }
+
+-- how many kids the operator with the name has, where there is one
+abbrev pub arity_in : List Operator → List ℕ → Option (Option ℕ)
+arity_in [] name = None
+arity_in (o ∷ ops) name = if bytes_eq o.name name then Some o.arity else arity_in ops name
+
+-- the first of two counts
+abbrev pub or_count : Option ℕ → Option ℕ → Option ℕ
+or_count None other = other
+or_count (Some n) other = Some n
 
 -- the operator has as many kids as at this use, where it is its first
 abbrev pub with_use : Word × ℕ → Operator → Operator

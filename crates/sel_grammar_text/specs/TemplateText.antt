@@ -39,13 +39,20 @@ first_sign p ((at, Byte b) ∷ ps) = first_sign p ps
 first_sign p ((at, Sign c) ∷ ps) = if p c then Some at else first_sign p ps
 first_sign p ((at, LoneSign) ∷ ps) = first_sign p ps
 
+-- the piece is a line end
+abbrev pub is_line_end : TemplatePiece → Bool
+is_line_end (Byte b) = b == 10
+is_line_end (Sign c) = false
+is_line_end LoneSign = false
+
+-- whether the last piece is a line end, where one stands before these or none
+abbrev pub ends_line_from : Bool → List (ℕ × TemplatePiece) → Bool
+ends_line_from last [] = last
+ends_line_from last (p ∷ ps) = ends_line_from (is_line_end p.1) ps
+
 -- whether the last byte, after the escapes, is a line end
 abbrev pub ends_line : List (ℕ × TemplatePiece) → Bool
-ends_line [] = false
-ends_line ((at, Byte b) ∷ []) = b == 10
-ends_line ((at, Sign c) ∷ []) = false
-ends_line ((at, LoneSign) ∷ []) = false
-ends_line (p ∷ q ∷ ps) = ends_line (q ∷ ps)
+ends_line ps = ends_line_from false ps
 
 -- a byte of text before some parts
 abbrev pub add_byte : ℕ → List Part → List Part

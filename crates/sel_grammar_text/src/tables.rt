@@ -102,7 +102,12 @@ impl<'t> Tables<'t> {
     {
         let pattern = rule.pattern.as_slice();
         add_name(alloc, &mut self.nonterminals, &rule.left)?;
-        add_leaves(alloc, &mut self.nonterminals, self.operators.as_slice(), pattern)?;
+        add_leaves(
+            alloc,
+            &mut self.nonterminals,
+            self.operators.as_slice(),
+            pattern,
+        )?;
         add_uses(&mut self.uses, self.operators.as_slice(), pattern)?;
         let said = rule_of(
             alloc,

@@ -54,7 +54,7 @@ fn together(b: u8, c: u8) -> (TemplatePiece, usize)
 }
 
 /// What stands at the front, and how many bytes it takes.
-fn next_piece(bytes: &[u8]) -> Option<(TemplatePiece, usize)>
+pub fn next_piece(bytes: &[u8]) -> Option<(TemplatePiece, usize)>
     ensures fits { IfSome result (λ x. (0 < x.1) × (x.1 ≤ length bytes.now)) }
     ensures cut { (at : ℕ) → MatchOption result (pieces at bytes.now ≡ []) (λ x. pieces at bytes.now ≡ (at, x.0) ∷ pieces (at + x.1) (drop x.1 bytes.now)) }
 {
@@ -66,17 +66,17 @@ fn next_piece(bytes: &[u8]) -> Option<(TemplatePiece, usize)>
 }
 
 /// The first percent sign that isn't followed by a digit, `a`, `c` or `%`, where the template stands at a place.
-pub fn bad_sign_at(inside: &[u8]) -> Option<usize>
-    requires { length inside.now < 2 ^ 63 }
-    ensures { result ≡ bad_sign (pieces 0 inside.now) }
+pub fn bad_sign_at(at: usize, inside: &[u8]) -> Option<usize>
+    requires { at + length inside.now < 2 ^ 63 }
+    ensures { result ≡ bad_sign (pieces at inside.now) }
 {
-    let mut at = 0;
+    let mut place = at;
     let mut rest = inside;
     'pieces: while let Some((piece, width)) = next_piece(rest) {
         if !is_lawful(piece) {
-            return Some(at);
+            return Some(place);
         }
-        at += width;
+        place += width;
         rest = &rest[width..];
     }
     None
