@@ -101,7 +101,7 @@ after_unclosed : (d : ℕ) → after_pattern d Unclosed ≡ None
 after_unclosed zero = refl
 after_unclosed (suc d) = refl
 
-no_unclosed : (s : State) → step s Unclosed ≡ None
+pub no_unclosed : (s : State) → step s Unclosed ≡ None
 no_unclosed (Declaring s t) = refl
 no_unclosed Starting = refl
 no_unclosed (Entering s) = refl

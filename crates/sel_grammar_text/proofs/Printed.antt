@@ -2,15 +2,12 @@
 use Rattle.std.proofs.Math.Seq.{take-append_seam}
 use Rattle.std.proofs.Common.{◌≡◌, ℕ, suc, ◌+◌, List, [], ◌∷◌, ◌++◌, Option, Some, None, Bool, true, false, length, take, drop, refl, ap, ◌∙◌, arith, eqb, append_assoc, length-append}
 use Rattle.std.specs.Prelude.{take_while, option_map}
-use Rattle.std.specs.List.{prefix_len, flat_map}
+use Rattle.std.specs.List.{prefix_len}
 use Rattle.std.specs.Char.{is_ascii_digit}
-use Rattle.std.proofs.lemmas.Fmt.{decimal_digit}
 use Rattle.sel_grammar.specs.Names.{is_letter, is_name_byte}
-use Rattle.sel_grammar.specs.declared.grammar.Part.{Part}
-use Rattle.sel_grammar.specs.declared.grammar.Part.TheVariants.{Text, Kid, Attribute, Temp}
-use Rattle.sel_grammar_text.specs.Tokens.{is_on_line, Name, Integer, Quoted, token_of, inside_len}
-use Rattle.sel_grammar_text.specs.Printing.{printed_byte, printed_template, AreParts}
-use Rattle.sel_grammar_text.proofs.Templates.{by_test, unequal}
+use Rattle.sel_grammar_text.specs.Tokens.{Name, Integer, token_of, inside_len}
+use Rattle.sel_grammar_text.specs.Printing.{printed_byte}
+use Rattle.sel_grammar_text.proofs.Templates.{by_test}
 
 -- what follows doesn't go on with the run
 abbrev pub Stops : (ℕ → Bool) → List ℕ → Type 0
@@ -31,11 +28,11 @@ front p b bytes rest h s =
     let n : 1 + prefix_len p (bytes ++ rest) ≡ length (b ∷ bytes) = omega (arith, run_of p bytes rest h s) in
     ap (λ k. take k (b ∷ (bytes ++ rest))) n ∙ take-append_seam (b ∷ bytes) rest
 
-drop_past : (xs : List ℕ) (y : ℕ) (ys : List ℕ) → drop (length xs + 1) (xs ++ (y ∷ ys)) ≡ ys
+pub drop_past : (xs : List ℕ) (y : ℕ) (ys : List ℕ) → drop (length xs + 1) (xs ++ (y ∷ ys)) ≡ ys
 drop_past [] y ys = refl
 drop_past (x ∷ xs) y ys = let n : length (x ∷ xs) + 1 ≡ suc (length xs + 1) = omega arith in ap (λ k. drop k (x ∷ (xs ++ (y ∷ ys)))) n ∙ drop_past xs y ys
 
-taken : (p : ℕ → Bool) (bytes rest : List ℕ) → Each p bytes → Stops p rest → take_while p (bytes ++ rest) ≡ bytes
+pub taken : (p : ℕ → Bool) (bytes rest : List ℕ) → Each p bytes → Stops p rest → take_while p (bytes ++ rest) ≡ bytes
 taken p bytes rest h s = ap (λ n. take n (bytes ++ rest)) (run_of p bytes rest h s) ∙ take-append_seam bytes rest
 
 -- A printed name, whatever follows that doesn't go on with it.
@@ -64,7 +61,7 @@ both_more a b c (Some n) e = ap Some (omega arith)
 plain_passes : (b : ℕ) → eqb b 34 ≡ false → eqb b 10 ≡ false → eqb b 92 ≡ false → Passes (b ∷ [])
 plain_passes b h k j rest = rw (h, k, j) (one_more (inside_len false rest))
 
-byte_passes : (b : ℕ) → Passes (printed_byte b)
+pub byte_passes : (b : ℕ) → Passes (printed_byte b)
 byte_passes b =
     by_test b 10 _ _ Passes (λ e rest. two_more (inside_len false rest)) (λ n.
     by_test b 9 _ _ Passes (λ e rest. two_more (inside_len false rest)) (λ _.
@@ -77,36 +74,12 @@ passes-append x y h k rest =
     ap (inside_len false) (append_assoc x y rest) ∙ h (y ++ rest) ∙ ap (option_map (λ n. length x + n)) (k rest)
     ∙ both_more (length x) (length y) (length (x ++ y)) (inside_len false rest) (length-append x y)
 
-none_passes : Passes []
+pub none_passes : Passes []
 none_passes rest = same (inside_len false rest)
   where
     same : (o : Option ℕ) → o ≡ option_map (λ n. 0 + n) o
     same None = refl
     same (Some n) = ap Some (omega arith)
 
-text_passes : (bytes : List ℕ) → Passes (flat_map printed_byte bytes)
-text_passes [] = none_passes
-text_passes (b ∷ bytes) = passes-append (printed_byte b) (flat_map printed_byte bytes) (byte_passes b) (text_passes bytes)
-
-sign_passes : (c : ℕ) → eqb c 34 ≡ false → eqb c 10 ≡ false → eqb c 92 ≡ false → Passes (37 ∷ c ∷ [])
+pub sign_passes : (c : ℕ) → eqb c 34 ≡ false → eqb c 10 ≡ false → eqb c 92 ≡ false → Passes (37 ∷ c ∷ [])
 sign_passes c h k j rest = rw (h, k, j) (two_more (inside_len false rest))
-
--- A printed template ends at the closing quote behind it.
-pub template_passes : (parts : List Part) → AreParts parts → Passes (printed_template parts)
-template_passes [] h = none_passes
-template_passes (Text bytes ∷ parts) h = passes-append (flat_map printed_byte bytes) (printed_template parts) (text_passes bytes) (template_passes parts h.1)
-template_passes (Kid k ∷ parts) h =
-    subst (λ ds. Passes ((37 ∷ ds) ++ printed_template parts)) (sym (decimal_digit k (omega arith))) (passes-append (37 ∷ (48 + k) ∷ []) (printed_template parts) (sign_passes (48 + k) (unequal _ _ (λ e. omega arith)) (unequal _ _ (λ e. omega arith)) (unequal _ _ (λ e. omega arith))) (template_passes parts h.1))
-template_passes (Attribute ∷ parts) h = passes-append (37 ∷ 97 ∷ []) (printed_template parts) (sign_passes 97 refl refl refl) (template_passes parts h.1)
-template_passes (Temp ∷ parts) h = passes-append (37 ∷ 99 ∷ []) (printed_template parts) (sign_passes 99 refl refl refl) (template_passes parts h.1)
-
--- The token of a printed template, with what is printed behind it on the line.
-pub template_token : (parts : List Part) (behind rest : List ℕ) → AreParts parts → Each is_on_line behind → Stops is_on_line rest
-    → token_of (34 ∷ (printed_template parts ++ (34 ∷ (behind ++ rest)))) ≡ Quoted (printed_template parts) behind
-template_token parts behind rest h e s =
-    let inside = printed_template parts in
-    let len : inside_len false (inside ++ (34 ∷ (behind ++ rest))) ≡ Some (length inside + 0) = template_passes parts h (34 ∷ (behind ++ rest)) in
-    let plain : length inside + 0 ≡ length inside = omega arith in
-    let tail : drop (length inside + 1) (inside ++ (34 ∷ (behind ++ rest))) ≡ behind ++ rest = drop_past inside 34 (behind ++ rest) in
-    rw (len, plain) (ap (λ x. Quoted x (take_while is_on_line (drop (length inside + 1) (inside ++ (34 ∷ (behind ++ rest)))))) (take-append_seam inside (34 ∷ (behind ++ rest)))
-    ∙ ap (λ x. Quoted inside (take_while is_on_line x)) tail ∙ ap (Quoted inside) (taken is_on_line behind rest e s))

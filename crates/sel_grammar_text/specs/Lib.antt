@@ -27,3 +27,4 @@ pub mod Tables
 pub mod Extents
 pub mod Reading
 pub mod Laws
+pub mod PrintedLaws

@@ -1,5 +1,5 @@
 -- How a grammar is printed.
-use Rattle.std.specs.Prelude.{◌≡◌, ℕ, ◌==◌, List, [], ◌∷◌, ◌++◌, map, Option, Some, None, codes, decimal, slice_index_or, if◌then◌else◌}
+use Rattle.std.specs.Prelude.{◌≡◌, ℕ, ◌==◌, List, [], ◌++◌, map, Option, Some, None, codes, decimal, slice_index_or, if◌then◌else◌}
 use Rattle.std.specs.Fmt.{signed_decimal}
 use Rattle.std.specs.List.{flat_map}
 use Rattle.sel_base.specs.declared.range.Range.{Range}
@@ -7,6 +7,7 @@ use Rattle.sel_grammar.specs.declared.grammar.Grammar.{Grammar}
 use Rattle.sel_grammar.specs.declared.grammar.Operator.{Operator}
 use Rattle.sel_grammar.specs.declared.grammar.Pattern.{Pattern, Leaf, Nullary, Unary', Binary', end_of-Pattern, more_of-Pattern}
 use Rattle.sel_grammar.specs.declared.grammar.Rule.{Rule}
+use Rattle.sel_grammar_text.specs.GrammarText.{SpellsGrammar}
 use Rattle.sel_grammar_text.specs.Printing.{printed_template}
 
 -- the name of that number, and none beyond the last
@@ -63,3 +64,9 @@ pub record IsSameButPlaces (g h : Grammar) : Type 0 where
   pub operators : g.operators ≡ h.operators
   pub nonterminals : g.nonterminals ≡ h.nonterminals
   pub rules : map without_place g.rules ≡ map without_place h.rules
+
+-- the text spells a grammar that is this one but for the places of rules
+pub record SpellsAgain (text : List ℕ) (g : Grammar) : Type 0 where
+  pub read : Grammar
+  pub spells : SpellsGrammar text read
+  pub same : IsSameButPlaces g read

@@ -16,6 +16,8 @@ mod number;
 mod numbers;
 mod pattern;
 mod place;
+mod print;
+pub mod print_laws;
 mod read;
 mod rule_checks;
 mod scan;
@@ -27,4 +29,5 @@ mod tokens;
 mod values;
 mod words;
 
+pub use print::print_grammar;
 pub use read::read_grammar;
