@@ -311,10 +311,13 @@ fn a_tree_that_is_too_deep_is_refused(rt: HostRuntime) -> Result<(), Fail> {
 #[test]
 fn a_text_over_its_limit_is_too_big(rt: HostRuntime) -> Result<(), Fail> {
     let alloc = rt.alloc();
-    let mut grammar = String::new(alloc);
-    for _ in 0..16_777_217 {
-        grammar.push_str("%")?;
+    // 2^24 bytes and one more.
+    let mut grammar = String::from_str(alloc, "%")?;
+    for _ in 0..24 {
+        let half = String::from_str(alloc, grammar.as_str())?;
+        grammar.push_str(half.as_str())?;
     }
+    grammar.push_str("%")?;
     let case = Case {
         grammar: grammar.as_str(),
         out: "",
