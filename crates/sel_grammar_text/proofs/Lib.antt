@@ -46,3 +46,4 @@ pub mod ItemWords
 pub mod Suffixes
 pub mod ReadSteps
 pub mod Ready
+pub mod SpelledNames

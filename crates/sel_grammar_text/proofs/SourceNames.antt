@@ -208,7 +208,7 @@ pub among-split : (names xs ys : List (List ℕ)) → AllAmong names (xs ++ ys) 
 among-split names [] ys h = (tt, h)
 among-split names (x ∷ xs) ys h = let r = among-split names xs ys h.1 in ((h.0, r.0), r.1)
 
-among_more : (names : List (List ℕ)) (x b : List ℕ) → is_among names b ≡ true → is_among (names ++ (x ∷ [])) b ≡ true
+pub among_more : (names : List (List ℕ)) (x b : List ℕ) → is_among names b ≡ true → is_among (names ++ (x ∷ [])) b ≡ true
 among_more [] x b h = cc
 among_more (n ∷ names) x b h = either (bytes_eq n b) h (among_more names x b)
   where
@@ -216,7 +216,7 @@ among_more (n ∷ names) x b h = either (bytes_eq n b) h (among_more names x b)
     either true e f = refl
     either false e f = f e
 
-among_last : (names : List (List ℕ)) (b : List ℕ) → is_among (names ++ (b ∷ [])) b ≡ true
+pub among_last : (names : List (List ℕ)) (b : List ℕ) → is_among (names ++ (b ∷ [])) b ≡ true
 among_last [] b = ap (λ t. t || false) (bytes_same b)
 among_last (n ∷ names) b = either (bytes_eq n b) (among_last names b)
   where
