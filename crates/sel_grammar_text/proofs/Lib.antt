@@ -47,3 +47,4 @@ pub mod Suffixes
 pub mod ReadSteps
 pub mod Ready
 pub mod SpelledNames
+pub mod SpelledNonterminals

@@ -160,11 +160,11 @@ abbrev pub NamesPass : List (List ℕ) → List (List ℕ) → Type 0
 NamesPass before [] = Unit {0}
 NamesPass before (b ∷ bs) = ((is_among before b ≡ false) × (nat_le most_operators (length before) ≡ false)) × NamesPass (before ++ (b ∷ [])) bs
 
-unplaced : (b : Bool) (at : ℕ) → place_if b at ≡ None → b ≡ false
+pub unplaced : (b : Bool) (at : ℕ) → place_if b at ≡ None → b ≡ false
 unplaced true at h = cc
 unplaced false at h = refl
 
-or_none : (a b : Option Fault) → or_fault a b ≡ None → (a ≡ None) × (b ≡ None)
+pub or_none : (a b : Option Fault) → or_fault a b ≡ None → (a ≡ None) × (b ≡ None)
 or_none (Some f) b h = cc
 or_none None b h = (refl, h)
 
