@@ -47,3 +47,5 @@ pub mod Suffixes
 pub mod ReadSteps
 pub mod Ready
 pub mod Commas
+pub mod SpelledNames
+pub mod SpelledNonterminals

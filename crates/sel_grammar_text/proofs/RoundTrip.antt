@@ -83,7 +83,7 @@ lefts_are ops nts (r ∷ rs) (t ∷ ts) b g h = by_test (bytes_eq t.left.bytes b
     by_test false e k f = f k
 
 -- the start symbol's name
-record StartName (nts lefts : List (List ℕ)) (start : ℕ) : Type 0 where
+pub record StartName (nts lefts : List (List ℕ)) (start : ℕ) : Type 0 where
   name : List ℕ
   there : name_at nts start ≡ name
   back : number_of nts name ≡ start
@@ -215,20 +215,20 @@ good_rule_items [] = tt
 good_rule_items (t ∷ ts) = (tt, good_rule_items ts)
 
 -- What is known of a text that spells a grammar, by its items.
-record Known (items : List Item) : Type 0 where
-  rs : List RuleForm
-  texts : List RuleText
-  head : List Item
-  rules_are : rules items ≡ texts
-  good : RulesGood (operators items) (nonterminals items) rs texts
-  operators_are : operators head ≡ operators items
-  no_rules_first : rules head ≡ []
-  pass_rules : check_all head (rule_items texts) ≡ None
-  entries : EntriesGood items
-  names : NamesPass [] (operators items)
-  some : eqb (length texts) 0 ≡ false
-  start : StartName (nonterminals items) (left_names texts) (start_of (nonterminals items) items)
-  present : AllAmong (left_names texts) (bytes_of (nonterminal_uses (operators items) (rule_items texts)))
+pub record Known (items : List Item) : Type 0 where
+  pub rs : List RuleForm
+  pub texts : List RuleText
+  pub head : List Item
+  pub rules_are : rules items ≡ texts
+  pub good : RulesGood (operators items) (nonterminals items) rs texts
+  pub operators_are : operators head ≡ operators items
+  pub no_rules_first : rules head ≡ []
+  pub pass_rules : check_all head (rule_items texts) ≡ None
+  pub entries : EntriesGood items
+  pub names : NamesPass [] (operators items)
+  pub some : eqb (length texts) 0 ≡ false
+  pub start : StartName (nonterminals items) (left_names texts) (start_of (nonterminals items) items)
+  pub present : AllAmong (left_names texts) (bytes_of (nonterminal_uses (operators items) (rule_items texts)))
 
 start_name : (items : List Item) (rs : List RuleForm) (texts : List RuleText) → rules items ≡ texts → RulesGood (operators items) (nonterminals items) rs texts → eqb (length texts) 0 ≡ false
     → first_absent (left_names texts) (nonterminal_uses (operators items) items) ≡ None → StartName (nonterminals items) (left_names texts) (start_of (nonterminals items) items)
@@ -253,7 +253,7 @@ middle_present lefts ops xs ys zs h =
     (among-split lefts (bytes_of (nonterminal_uses ops xs)) (bytes_of (nonterminal_uses ops ys))
     (subst (AllAmong lefts) (map-append (λ w. w.bytes) (nonterminal_uses ops xs) (nonterminal_uses ops ys)) (subst (λ ws. AllAmong lefts (bytes_of ws)) (uses-append ops xs ys) a.0))).1
 
-known : (source : List ℕ) (n : ℕ) (at : ℕ) → IsWhole source n → end_fault (items_of n source) at ≡ None → Known (items_of n source)
+pub known : (source : List ℕ) (n : ℕ) (at : ℕ) → IsWhole source n → end_fault (items_of n source) at ≡ None → Known (items_of n source)
 known source n at whole no_end =
     let x = whole.whole in
     let ds = x.declarations in let rs = x.rules in let last = x.last in

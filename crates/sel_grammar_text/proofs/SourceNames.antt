@@ -160,11 +160,11 @@ abbrev pub NamesPass : List (List ℕ) → List (List ℕ) → Type 0
 NamesPass before [] = Unit {0}
 NamesPass before (b ∷ bs) = ((is_among before b ≡ false) × (nat_le most_operators (length before) ≡ false)) × NamesPass (before ++ (b ∷ [])) bs
 
-unplaced : (b : Bool) (at : ℕ) → place_if b at ≡ None → b ≡ false
+pub unplaced : (b : Bool) (at : ℕ) → place_if b at ≡ None → b ≡ false
 unplaced true at h = cc
 unplaced false at h = refl
 
-or_none : (a b : Option Fault) → or_fault a b ≡ None → (a ≡ None) × (b ≡ None)
+pub or_none : (a b : Option Fault) → or_fault a b ≡ None → (a ≡ None) × (b ≡ None)
 or_none (Some f) b h = cc
 or_none None b h = (refl, h)
 
@@ -208,7 +208,7 @@ pub among-split : (names xs ys : List (List ℕ)) → AllAmong names (xs ++ ys) 
 among-split names [] ys h = (tt, h)
 among-split names (x ∷ xs) ys h = let r = among-split names xs ys h.1 in ((h.0, r.0), r.1)
 
-among_more : (names : List (List ℕ)) (x b : List ℕ) → is_among names b ≡ true → is_among (names ++ (x ∷ [])) b ≡ true
+pub among_more : (names : List (List ℕ)) (x b : List ℕ) → is_among names b ≡ true → is_among (names ++ (x ∷ [])) b ≡ true
 among_more [] x b h = cc
 among_more (n ∷ names) x b h = either (bytes_eq n b) h (among_more names x b)
   where
@@ -216,7 +216,7 @@ among_more (n ∷ names) x b h = either (bytes_eq n b) h (among_more names x b)
     either true e f = refl
     either false e f = f e
 
-among_last : (names : List (List ℕ)) (b : List ℕ) → is_among (names ++ (b ∷ [])) b ≡ true
+pub among_last : (names : List (List ℕ)) (b : List ℕ) → is_among (names ++ (b ∷ [])) b ≡ true
 among_last [] b = ap (λ t. t || false) (bytes_same b)
 among_last (n ∷ names) b = either (bytes_eq n b) (among_last names b)
   where

@@ -28,3 +28,4 @@ pub mod Extents
 pub mod Reading
 pub mod Laws
 pub mod PrintedLaws
+pub mod SpelledLaws

@@ -22,6 +22,7 @@ mod read;
 mod rule_checks;
 mod scan;
 mod signs;
+pub mod spelled_laws;
 mod strings;
 mod tables;
 mod template;
