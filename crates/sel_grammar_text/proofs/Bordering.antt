@@ -38,7 +38,7 @@ at_spot t at = record { token = t; at = at }
 abbrev pub GoesOrEnds : List Spot → Token → ℕ → State → Type 0
 GoesOrEnds left t at u =
     ((is_border u ≡ false → Begun u (left ++ at_spot t at ∷ [])) × (is_border u ≡ false → ends left t ≡ false))
-    × (is_border u ≡ true → (ends left t ≡ true) ⊎ (item_of (left ++ at_spot t at ∷ []) ≡ []))
+    × (is_border u ≡ true → (ends left t ≡ true) ⊎ ((item_of (left ++ at_spot t at ∷ []) ≡ []) × (u ≡ Ended)))
 
 abbrev Next : List Spot → Token → ℕ → Option State → Type 0
 Next left t at None = Unit {0}
@@ -47,7 +47,7 @@ Next left t at (Some u) = GoesOrEnds left t at u
 goes : (left : List Spot) (t : Token) (at : ℕ) (u : State) → is_border u ≡ false → Begun u (left ++ at_spot t at ∷ []) → ends left t ≡ false → GoesOrEnds left t at u
 goes left t at u b x y = ((λ _. x, λ _. y), λ e. let w : false ≡ true = sym b ∙ e in absurd (let z : ⊥ = cc in z))
 
-ended : (left : List Spot) (t : Token) (at : ℕ) (u : State) → is_border u ≡ true → (ends left t ≡ true) ⊎ (item_of (left ++ at_spot t at ∷ []) ≡ []) → GoesOrEnds left t at u
+ended : (left : List Spot) (t : Token) (at : ℕ) (u : State) → is_border u ≡ true → (ends left t ≡ true) ⊎ ((item_of (left ++ at_spot t at ∷ []) ≡ []) × (u ≡ Ended)) → GoesOrEnds left t at u
 ended left t at u b x = ((λ e. let w : true ≡ false = sym b ∙ e in absurd (let z : ⊥ = cc in z), λ e. let w : true ≡ false = sym b ∙ e in absurd (let z : ⊥ = cc in z)), λ _. x)
 
 by_cond : (left : List Spot) (t : Token) (at : ℕ) (b : Bool) (o p : Option State) → Next left t at o → Next left t at p → Next left t at (cond b o p)
@@ -147,7 +147,7 @@ step_next (Entering s) Equals at left h = equals_next s at left h
 step_next (Equating s) (Integer d) at left h = by_cond left (Integer d) at (is_small d) (Some (Declaring s true)) None (number_next s d at left h) tt
 step_next Ruling (Name n) at left h = left_next n at left h
 step_next Ruling Percents at left h = ended left Percents at Ended refl (inl (ap (λ l. ends l Percents) h))
-step_next Ruling End at left h = ended left End at Ended refl (inr (ap (λ l. item_of (l ++ at_spot End at ∷ [])) h))
+step_next Ruling End at left h = ended left End at Ended refl (inr (ap (λ l. item_of (l ++ at_spot End at ∷ [])) h, refl))
 step_next LeftName Colon at left h = colon_next at left h
 step_next (Wanted d) (Name n) at left h = goes left (Name n) at (Named d) refl (one_more 2 3 left (at_spot (Name n) at) h (omega arith)) (name_goes left n h)
 step_next (Named d) Open at left h = goes left Open at (Wanted (suc d)) refl (one_more 3 2 left (at_spot Open at) h (omega arith)) (open_goes left)

@@ -28,5 +28,7 @@ pub mod TableSteps
 pub mod RuleChecks
 pub mod FromTables
 pub mod ItemWords
+pub mod Suffixes
+pub mod ReadSteps
 pub mod Ready
 pub mod Commas

@@ -10,9 +10,11 @@ use Rattle.sel_grammar_text.specs.FormFaults.{HasFormFault, names_in, pattern_na
 use Rattle.sel_grammar_text.specs.FormDecision.{decided_fault, accepted_fault, judged, is_unclosed}
 use Rattle.sel_grammar_text.specs.ItemFaults.{check_all}
 use Rattle.sel_grammar_text.specs.GrammarText.{HasFault, IsSoundUpTo, HasFirstFault, at_token}
-use Rattle.sel_grammar_text.specs.Machine.{step, run, go, begin, is_border, wants_cost, is_name}
+use Rattle.sel_grammar_text.specs.Machine.{step, run, go, begin, is_border, is_declaring, wants_cost, is_name}
 use Rattle.std.specs.List.{AllByRecursion}
 use Rattle.sel_grammar_text.specs.ItemNumbers.{HasExternal}
+use Rattle.sel_grammar_text.specs.Names.{rules}
+use Rattle.sel_grammar_text.specs.Tables.{StandsRight}
 use Rattle.sel_grammar_text.specs.Extents.{StandsAtItem, HasExtent}
 use Rattle.sel_grammar_text.specs.declared.fault.Fault.{Fault}
 use Rattle.sel_grammar_text.specs.declared.scan.Extent.{Extent}
@@ -23,7 +25,7 @@ use Rattle.sel_grammar_text.proofs.FormComplete.{complete, goes_on, stops}
 use Rattle.sel_grammar_text.proofs.Steps.{Reached, reached_next, first-snoc, after-snoc, tokens-snoc, cutting-snoc}
 use Rattle.sel_grammar_text.proofs.Decided.{decided, undecided}
 use Rattle.sel_grammar_text.proofs.Bordering.{Begun, begun_next, border_begun}
-use Rattle.sel_grammar_text.proofs.Tails.{Tailed, tailed_next, border_tailed}
+use Rattle.sel_grammar_text.proofs.Tails.{Tailed, tailed_next, border_tailed, declared_before}
 use Rattle.sel_grammar_text.proofs.Depths.{CameLast, step_came, step_end}
 
 -- Of a text in which an item begins behind n tokens, with the bytes `text`: `count` tokens further nothing is wrong, the
@@ -39,6 +41,7 @@ pub record Walked (bytes : List ℕ) (n : ℕ) (text : List ℕ) (s : State) (na
   pub names_are : names ≡ length (names_in (cutting k bytes).left)
   pub begun : Begun s (cutting k bytes).left
   pub tailed : Tailed s (cutting k bytes).left
+  pub declared : (first : State) → run (tokens (first_spots n bytes)) begin ≡ Some first → is_declaring s ≡ true → is_declaring first ≡ true
 
 abbrev pub Walk : ℕ → State → List ℕ → State → ℕ → List ℕ → ℕ → Type 0
 Walk all start text s names rest count = (bytes : List ℕ) (n : ℕ) → length bytes ≡ all → StandsAtItem bytes n start text → Walked bytes n text s names rest count
@@ -55,6 +58,7 @@ walk_start all start text b bytes n e h = record {
   names_are = sym (ap (λ l. length (names_in l)) h.nothing_left);
   begun = subst (Begun start) (sym h.nothing_left) (border_begun start b);
   tailed = subst (Tailed start) (sym h.nothing_left) (border_tailed start b);
+  declared = λ first r d. let e : Some start ≡ Some first = sym h.reached ∙ r in subst (λ z. is_declaring z ≡ true) (let f : start ≡ first = cc in f) d;
 }
 
 -- what is seen of the next token
@@ -221,6 +225,7 @@ module _ (all : ℕ) (start : State) (text : List ℕ) (s : State) (names : ℕ)
         rest_from = sees.more_is ∙ ap behind x.rest_from ∙ sym (after-snoc count text) ∙ ap (λ y. after y text) (sym c);
         names_are = m ∙ ap (λ y. y + cond (is_name t) 1 0) x.names_are ∙ sym (names_next (cutting k bytes).left t at) ∙ ap (λ y. length (names_in ((cutting k bytes).left ++ y ∷ []))) (sym spot_is) ∙ sym (ap (λ y. length (names_in y)) left_is);
         begun = subst (Begun u) (ap (λ y. (cutting k bytes).left ++ y ∷ []) (sym spot_is) ∙ sym left_is) (next.0.0 b);
+        declared = λ first r z. x.declared first r (declared_before s u t e z);
         tailed = subst (Tailed u) (ap (λ y. (cutting k bytes).left ++ y ∷ []) (sym spot_is) ∙ sym left_is) (number.0 b);
       }
 
@@ -242,8 +247,14 @@ module _ (all : ℕ) (start : State) (text : List ℕ) (s : State) (names : ℕ)
         well_formed = well_formed d bytes n l h;
         items = x.items;
         spots = spots_next bytes n l h ∙ ap (λ y. first (length bytes) y text) (sym c);
-        ends = subst (λ y. (ends (cutting k bytes).left y.token ≡ true) ⊎ (item_of ((cutting k bytes).left ++ y ∷ []) ≡ [])) (sym spot_is) (next.1 b);
-        number = subst (λ y. AllByRecursion HasExternal (item_of ((cutting k bytes).left ++ y ∷ []))) (sym spot_is) (number.1 b);
+        ends = elim (next.1 b) [
+          | inl y ↦ inl (subst (λ z. ends (cutting k bytes).left z.token ≡ true) (sym spot_is) y)
+          | inr y ↦ inr (subst (λ z. item_of ((cutting k bytes).left ++ z ∷ []) ≡ []) (sym spot_is) y.0, s' ∙ y.1)
+        ];
+        number = subst (λ y. AllByRecursion HasExternal (item_of ((cutting k bytes).left ++ y ∷ []))) (sym spot_is) (number.1 b).number;
+        no_rule = λ z. subst (λ y. rules (item_of ((cutting k bytes).left ++ y ∷ [])) ≡ []) (sym spot_is) ((number.1 b).no_rule (subst (λ y. is_declaring y ≡ true) s' z));
+        order = λ before z. subst (λ y. AllByRecursion (StandsRight before) (item_of ((cutting k bytes).left ++ y ∷ []))) (sym spot_is) ((number.1 b).order before (λ v. z (subst (λ y. is_declaring y ≡ true) (sym s') v)));
+        declared = λ first r z. x.declared first r (declared_before s u t e (subst (λ y. is_declaring y ≡ true) s' z));
         place = p ∙ ap (λ y. y.at) (sym spot_is);
         behind = m ∙ more_is all bytes rest from more t at k sees x.rest_is;
       }

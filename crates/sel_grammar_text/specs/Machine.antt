@@ -77,3 +77,11 @@ wants_cost _ = false
 abbrev pub is_name : Token → Bool
 is_name (Name n) = true
 is_name _ = false
+
+-- rules haven't begun
+abbrev pub is_declaring : State → Bool
+is_declaring (Declaring s t) = true
+is_declaring Starting = true
+is_declaring (Entering s) = true
+is_declaring (Equating s) = true
+is_declaring _ = false

@@ -4,36 +4,28 @@ use Rattle.sel_grammar_text.specs.Spots.{after, tokens, first_spots, here}
 use Rattle.sel_grammar_text.specs.Names.{rules}
 use Rattle.sel_grammar_text.specs.Cutting.{cutting}
 use Rattle.sel_grammar_text.specs.GrammarText.{HasFault, HasFirstFault, IsSoundUpTo, items_of}
-use Rattle.sel_grammar_text.specs.Machine.{begin, run, step, is_border}
+use Rattle.sel_grammar_text.specs.Machine.{begin, run, step, is_border, is_declaring}
 use Rattle.sel_grammar_text.specs.Extents.{StandsAtItem}
 use Rattle.sel_grammar_text.specs.Places.{IsPlaceBehind}
 use Rattle.sel_grammar_text.specs.Tables.{Means}
 use Rattle.sel_grammar_text.specs.declared.fault.Fault.{Fault}
 use Rattle.sel_grammar_text.specs.declared.form.State.{State}
-use Rattle.sel_grammar_text.specs.declared.form.State.TheVariants.{Declaring, Starting, Entering, Equating, Ended}
-use Rattle.sel_grammar_text.specs.declared.read.Reader.{Reader}
+use Rattle.sel_grammar_text.specs.declared.form.State.TheVariants.{Ended}
+use Rattle.sel_grammar_text.specs.declared.read.Position.{Position}
 use Rattle.sel_grammar_text.specs.declared.read.Stop.{Stop}
 use Rattle.sel_grammar_text.specs.declared.read.Stop.TheVariants as stop
 use Rattle.sel_grammar_text.specs.declared.scan.Extent.{Extent}
 use Rattle.sel_grammar_text.specs.declared.tables.Tables.{Tables}
 
--- rules haven't begun
-abbrev pub is_declaring : State → Bool
-is_declaring (Declaring s t) = true
-is_declaring Starting = true
-is_declaring (Entering s) = true
-is_declaring (Equating s) = true
-is_declaring _ = false
-
--- The reader stands behind whole items without a fault, which its tables hold, and knows its place.
-pub record IsReading (bytes : List ℕ) (r : Reader) : Type 0 where
+-- The position is behind whole items without a fault, which the tables hold, and its place is right.
+pub record IsReading (bytes : List ℕ) (t : Tables) (p : Position) : Type 0 where
   pub n : ℕ
-  pub stands : StandsAtItem bytes n r.state r.left.now
-  pub border : is_border r.state ≡ true
-  pub open_still : r.state ≡ Ended → ⊥
-  pub means : Means bytes (cutting n bytes).items r.tables
-  pub no_rules : is_declaring r.state ≡ true → rules (cutting n bytes).items ≡ []
-  pub place : IsPlaceBehind (take (length bytes - length r.left.now) bytes) r.place
+  pub stands : StandsAtItem bytes n p.state p.left.now
+  pub border : is_border p.state ≡ true
+  pub open_still : p.state ≡ Ended → ⊥
+  pub means : Means bytes (cutting n bytes).items t
+  pub no_rules : is_declaring p.state ≡ true → rules (cutting n bytes).items ≡ []
+  pub place : IsPlaceBehind (take (length bytes - length p.left.now) bytes) p.place
 
 -- The extent's tokens have no fault, and the tables hold its item too.
 pub record IsTaken (bytes : List ℕ) (t : Tables) (e : Extent) : Type 0 where

@@ -26,3 +26,5 @@ mod template;
 mod tokens;
 mod values;
 mod words;
+
+pub use read::read_grammar;
