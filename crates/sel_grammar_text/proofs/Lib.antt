@@ -32,3 +32,4 @@ pub mod Suffixes
 pub mod ReadSteps
 pub mod Ready
 pub mod Commas
+pub mod NameCounts
