@@ -12,8 +12,10 @@ use Rattle.sel_grammar_text.specs.Spots.{Spot, tokens, first_spots, here}
 use Rattle.sel_grammar_text.specs.Cutting.{Cutting, cutting, with_spot, ends, item_of, pattern_in, commas}
 use Rattle.sel_grammar_text.specs.FormFaults.{HasFormFault, name_too_many, names_in, pattern_names}
 use Rattle.sel_grammar_text.specs.GrammarText.{HasFault, IsWhole, IsSoundUpTo, items_of}
+use Rattle.sel_grammar_text.specs.Extents.{HasExtent}
 use Rattle.sel_grammar_text.specs.Machine.{after_pattern, declare, step, run, go, begin, is_border, is_name}
 use Rattle.sel_grammar_text.specs.declared.fault.Fault.{Fault}
+use Rattle.sel_grammar_text.specs.declared.scan.Extent.{Extent}
 use Rattle.sel_grammar_text.specs.declared.form.State.{State}
 use Rattle.sel_grammar_text.specs.declared.form.State.TheVariants.{Declaring, Starting, Entering, Equating, Ruling, LeftName, Wanted, Named, Closed, External, Numbered, Pricing, Priced, Finishing, Ended}
 use Rattle.sel_grammar_text.proofs.FormSound.{run-append}
@@ -343,12 +345,18 @@ counted_up_to bytes (suc k) s h w =
 pub few_names_so_far : (bytes : List ℕ) (k : ℕ) (s : State) → run (tokens (first_spots k bytes)) begin ≡ Some s → IsWellFormedUpTo bytes k → AllByRecursion (λ r. HasFewNames r.pattern) (rules (cutting k bytes).items)
 few_names_so_far bytes k s h w = (counted_up_to bytes k s h w).items
 
--- a rule has few names where it ends with the next token
-pub few_names_of_item : (bytes : List ℕ) (k : ℕ) (s u : State) → run (tokens (first_spots k bytes)) begin ≡ Some s → step s (here k bytes).token ≡ Some u → is_border u ≡ true → IsWellFormedUpTo bytes (suc k)
-    → AllByRecursion (λ r. HasFewNames r.pattern) (rules (item_of ((cutting k bytes).left ++ (here k bytes ∷ []))))
+-- An item that ends with the next token is no rule, or has few names.
+few_names_of_item : (bytes : List ℕ) (k : ℕ) (s u : State) → run (tokens (first_spots k bytes)) begin ≡ Some s → step s (here k bytes).token ≡ Some u → ends (cutting k bytes).left (here k bytes).token ≡ true
+    → IsWellFormedUpTo bytes (suc k) → HaveFewNames (item_of ((cutting k bytes).left ++ (here k bytes ∷ [])))
 few_names_of_item bytes k s u h e b w =
     let next : run (tokens (first_spots (suc k) bytes)) begin ≡ Some u = ap (λ ts. run ts begin) (tokens-snoc k bytes) ∙ run_one (tokens (first_spots k bytes)) (here k bytes).token s h ∙ e in
-    (counted_next s u (here k bytes).token (here k bytes).at (cutting k bytes).left (has_room bytes k u next w) (counted_up_to bytes k s h (well_formed_before bytes k w)).counted e).1 b
+    let c = counted_up_to bytes k s h (well_formed_before bytes k w) in
+    (counted_next s u (here k bytes).token (here k bytes).at (cutting k bytes).left (has_room bytes k u next w) c.counted e).1
+    (by (is_border u) (λ x. sym b ∙ (begun_next s u (here k bytes).token (here k bytes).at (cutting k bytes).left c.begun e).0.1 x))
+  where
+    by : (d : Bool) → (d ≡ false → true ≡ false) → d ≡ true
+    by true x = refl
+    by false x = sym (x refl)
 
 -- the token that ends sound ones has no fault of form either
 pub well_formed_behind : (bytes : List ℕ) (n : ℕ) → IsSoundUpTo bytes n → ((f : Fault) → HasFormFault bytes n f → ⊥) → IsWellFormedUpTo bytes (suc n)
@@ -356,6 +364,13 @@ unfolding HasFault
 well_formed_behind bytes n h w j f l x = elim (eq-or-lt_of_le (let m : j ≤ n = omega (arith, l) in m)) [
   | inl e ↦ w f (subst (λ i. HasFormFault bytes i f) e x)
   | inr m ↦ h.faultless j f m (inl x)
+]
+
+-- A rule of the item that ends there has few names.
+pub few_names_of_extent : (bytes : List ℕ) (n : ℕ) (left : List ℕ) (e : Extent) (h : HasExtent bytes n left e) → AllByRecursion (λ r. HasFewNames r.pattern) (rules (item_of ((cutting h.last bytes).left ++ (here h.last bytes ∷ []))))
+few_names_of_extent bytes n left e h = elim h.ends [
+  | inl x ↦ few_names_of_item bytes h.last h.state e.state h.reached h.stepped x (well_formed_behind bytes h.last h.sound h.well_formed)
+  | inr x ↦ subst HaveFewNames (sym x.0) tt
 ]
 
 -- Each rule of a whole text has few names.
