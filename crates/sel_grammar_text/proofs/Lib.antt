@@ -49,3 +49,4 @@ pub mod Ready
 pub mod Commas
 pub mod SpelledNames
 pub mod SpelledNonterminals
+pub mod NameCounts
