@@ -19,4 +19,5 @@ pub mod PlainNumbers
 pub mod PlainMeaning
 pub mod PlainGrammars
 pub mod PlainDecided
+pub mod PatternShapes
 pub mod PlainExamples
