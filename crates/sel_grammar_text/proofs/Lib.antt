@@ -32,3 +32,5 @@ pub mod Suffixes
 pub mod ReadSteps
 pub mod Ready
 pub mod Commas
+pub mod NameCounts
+pub mod Shape
