@@ -34,3 +34,5 @@ pub mod Ready
 pub mod Commas
 pub mod NameCounts
 pub mod Shape
+pub mod Known
+pub mod WholeItems
