@@ -36,3 +36,5 @@ pub mod NameCounts
 pub mod Shape
 pub mod Known
 pub mod WholeItems
+pub mod KnownPatterns
+pub mod Lawfulness
