@@ -7,18 +7,16 @@ use Rattle.std.proofs.lemmas.Slice.Eq.{bytes_eq-Decides}
 use Rattle.sel_grammar.specs.Limits as limits
 use Rattle.sel_grammar.specs.Limits.{most_operators, most_nonterminals, most_rules, most_kids, IsArity, IsWithinLimits}
 use Rattle.sel_grammar.specs.Lawful.{IsRuleOf, IsLawful}
-use Rattle.sel_grammar.specs.declared.grammar.Grammar.{Grammar}
 use Rattle.sel_grammar.specs.declared.grammar.Operator.{Operator}
-use Rattle.sel_grammar.specs.declared.grammar.Rule.{Rule}
-use Rattle.sel_grammar_text.specs.declared.fault.Fault.{Fault}
 use Rattle.sel_grammar_text.specs.Items.{Word, RuleText, Item, StartItem, EntryItem, CodeItem, PercentsItem, RuleItem}
 use Rattle.sel_grammar_text.specs.Names.{is_among, number_of, operators, rules, leaves, nonterminals, uses, first_use}
 use Rattle.sel_grammar_text.specs.Faults.{fault, fault_at}
 use Rattle.sel_grammar_text.specs.Spots.{here}
-use Rattle.sel_grammar_text.specs.GrammarText.{SpellsGrammar, IsWhole, end_fault, items_of, first_absent, left_names, nonterminal_uses}
-use Rattle.sel_grammar_text.specs.Meaning.{operators_of, rule_of, start_of, grammar_of}
+use Rattle.sel_grammar_text.specs.GrammarText.{end_fault, items_of, first_absent, left_names, nonterminal_uses}
+use Rattle.sel_grammar_text.specs.Meaning.{operators_of, rule_of, start_of}
+use Rattle.sel_grammar_text.specs.Laws.{SpelledIsLawful}
 use Rattle.sel_grammar_text.proofs.ItemLists.{operator_names_of}
-use Rattle.sel_grammar_text.proofs.NameCounts.{HasFewNames}
+use Rattle.sel_grammar_text.proofs.NameCounts.{HasFewNames, few_names}
 use Rattle.sel_grammar_text.proofs.Known.{IsKnownName, IsKnownRule, IsKnown, all_map, all_append}
 use Rattle.sel_grammar_text.proofs.WholeItems.{whole_known}
 use Rattle.sel_grammar_text.proofs.KnownPatterns.{said, said_so, number_below, rule_known}
@@ -133,11 +131,7 @@ lawful bytes items h e few =
           (both (IsKnownRule (operators items) (nonterminals items) (uses (rules items))) (λ r. HasFewNames r.pattern) (rules items) h.rules_known few);
     }
 
--- what is left: that the names of each pattern are few
-abbrev pub HaveFewNames : Type 0
-HaveFewNames = (bytes : List ℕ) (n : ℕ) → IsWhole bytes n → AllByRecursion (λ r. HasFewNames r.pattern) (rules (items_of n bytes))
-
-pub spelled_lawful : HaveFewNames → (bytes : List ℕ) (g : Grammar) → SpellsGrammar bytes g → IsLawful g
-spelled_lawful few bytes g s =
+pub spelled_lawful : SpelledIsLawful
+spelled_lawful bytes g s =
     subst IsLawful (sym (s.says ∙ said_so bytes (items_of s.n bytes)))
-    (lawful bytes (items_of s.n bytes) (whole_known bytes s.n s.whole) (end_passes (items_of s.n bytes) (here s.n bytes).at s.no_fault) (few bytes s.n s.whole))
+    (lawful bytes (items_of s.n bytes) (whole_known bytes s.n s.whole) (end_passes (items_of s.n bytes) (here s.n bytes).at s.no_fault) (few_names bytes s.n s.whole))

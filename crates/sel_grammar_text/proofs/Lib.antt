@@ -38,3 +38,4 @@ pub mod Known
 pub mod WholeItems
 pub mod KnownPatterns
 pub mod Lawfulness
+
