@@ -1,12 +1,12 @@
 -- What is known of items that passed their checks.
-use Rattle.std.proofs.Common.{◌≡◌, ℕ, suc, ◌+◌, ◌<◌, ◌≤◌, ◌⊎◌, inl, inr, List, [], ◌∷◌, ◌++◌, Option, Some, None, Bool, true, false, length, refl, ap, sym, ◌∙◌, subst, arith, cond, eqb, ◌||◌, length-append, append_assoc, append-nil}
+use Rattle.std.proofs.Common.{◌≡◌, ℕ, ◌+◌, ◌≤◌, ◌⊎◌, inl, inr, List, [], ◌∷◌, ◌++◌, Option, Some, None, Bool, true, false, length, refl, ap, sym, ◌∙◌, subst, arith, cond, eqb, ◌||◌, length-append, append_assoc, append-nil}
 use Rattle.std.specs.Prelude.{not, bytes_eq, nat_lt, nat_le}
 use Rattle.std.specs.List.{AllByRecursion, flat_map}
 use Rattle.std.proofs.lemmas.Slice.Eq.{bytes_eq-Decides}
 use Rattle.sel_grammar.specs.Limits.{most_operators, most_nonterminals, most_rules, most_kids}
 use Rattle.sel_grammar_text.specs.declared.fault.Fault.{Fault}
 use Rattle.sel_grammar_text.specs.Items.{Word, RuleText, Item, StartItem, EntryItem, CodeItem, PercentsItem, RuleItem}
-use Rattle.sel_grammar_text.specs.Names.{is_among, operators, rules, leaves, nonterminal_words, with_words, nonterminals, uses, first_use}
+use Rattle.sel_grammar_text.specs.Names.{is_among, operators, rules, nonterminal_words, with_words, nonterminals, uses, first_use}
 use Rattle.sel_grammar_text.specs.Checks.{place_if, differs, has_wrong_kids, first_wrong_kids, is_nullary, range_at}
 use Rattle.sel_grammar_text.specs.Faults.{or_fault}
 use Rattle.sel_grammar_text.specs.ItemFaults.{check, check_all}
@@ -158,7 +158,7 @@ known_rule before r h passed =
     (one_longer most_rules (rules before) r (room_left most_rules (length (rules before)) r.left.at _ refl p.too_many_items))
     (few_words nts ws p.too_many_nonterminals h.few_nonterminals)
     (subst (λ x. AllByRecursion (IsKnownRule ops (with_words nts ws) x) (rules before ++ (r ∷ []))) (sym (flat_map-snoc (λ x. x.pattern) (rules before) r))
-        (all_append (IsKnownRule ops (with_words nts ws) (us ++ r.pattern)) (rules before) (r ∷ []) earlier (known, tt)))
+    (all_append (IsKnownRule ops (with_words nts ws) (us ++ r.pattern)) (rules before) (r ∷ []) earlier (known, tt)))
 
 -- one entry more, where there is no rule yet
 known_entry : (before : List Item) (name number : Word) → IsKnown before → check before (EntryItem name number) ≡ None → rules before ≡ [] → IsKnown (before ++ (EntryItem name number ∷ []))
@@ -202,7 +202,7 @@ known_more d (item ∷ items) before h passed none alone order =
     let apart : d ≡ true → (rules (item ∷ []) ≡ []) × (rules items ≡ []) = λ e. no_rules item items (alone e) in
     subst IsKnown (append_assoc before (item ∷ []) items)
     (known_more d items (before ++ (item ∷ [])) (known_item before item h both.0 (order before none).0) both.1
-        (λ e. rules-append before (item ∷ []) ∙ ap (λ x. x ++ rules (item ∷ [])) (none e) ∙ (apart e).0) (λ e. (apart e).1) (λ xs k. (order xs k).1))
+    (λ e. rules-append before (item ∷ []) ∙ ap (λ x. x ++ rules (item ∷ [])) (none e) ∙ (apart e).0) (λ e. (apart e).1) (λ xs k. (order xs k).1))
   where
     no_rules : (x : Item) (xs : List Item) → rules (x ∷ xs) ≡ [] → (rules (x ∷ []) ≡ []) × (rules xs ≡ [])
     no_rules (StartItem w) xs h = (refl, h)

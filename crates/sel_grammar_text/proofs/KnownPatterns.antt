@@ -1,13 +1,12 @@
 -- A pattern whose names are known is the grammar's.
-use Rattle.std.proofs.Common.{◌≡◌, ℕ, suc, zero, ◌+◌, ◌<◌, ◌≤◌, inl, inr, List, [], ◌∷◌, Option, Some, None, Bool, true, false, length, refl, ap, sym, ◌∙◌, subst, arith, cond, eqb, ◌||◌, ◌&&◌, map}
+use Rattle.std.proofs.Common.{◌≡◌, ℕ, suc, ◌+◌, ◌<◌, ◌≤◌, inl, inr, List, [], ◌∷◌, Some, None, Bool, true, false, length, refl, ap, sym, ◌∙◌, subst, arith, cond, eqb, ◌||◌, ◌&&◌, map}
 use Rattle.std.specs.Prelude.{not, bytes_eq, nat_lt, slice_get}
 use Rattle.std.specs.Str.Parse.{digits_value}
 use Rattle.std.specs.List.{AllByRecursion}
 use Rattle.std.proofs.lemmas.List.{length-map}
 use Rattle.std.proofs.lemmas.Slice.Eq.{bytes_eq-Decides}
-use Rattle.sel_base.specs.declared.range.Range.{Range}
 use Rattle.sel_grammar.specs.Limits.{most_names}
-use Rattle.sel_grammar.specs.Lawful.{names_of, HasOperator, IsPatternOf, IsRuleOf}
+use Rattle.sel_grammar.specs.Lawful.{names_of, IsPatternOf, IsRuleOf}
 use Rattle.sel_grammar.specs.declared.grammar.Grammar.{Grammar}
 use Rattle.sel_grammar.specs.declared.grammar.Operator.{Operator}
 use Rattle.sel_grammar.specs.declared.grammar.Pattern.{Pattern, Nullary}
@@ -22,7 +21,7 @@ use Rattle.sel_grammar_text.proofs.NameNumbers.{is_among_number}
 use Rattle.sel_grammar_text.proofs.Commas.{kids_sum}
 use Rattle.sel_grammar_text.proofs.NameCounts.{HasFewNames}
 use Rattle.sel_grammar_text.proofs.Shape.{IsNameOf, kids_of, built_fits}
-use Rattle.sel_grammar_text.proofs.Known.{IsKnownName, IsKnownRule, all_map}
+use Rattle.sel_grammar_text.proofs.Known.{IsKnownName, IsKnownRule}
 
 -- the grammar that the items say
 abbrev pub said : List ℕ → List Item → Grammar
@@ -115,9 +114,10 @@ nullary_known ops nts (n ∷ []) h = go (is_among ops n.0.bytes) refl (eqb n.1 0
   where
     go : (b : Bool) → is_among ops n.0.bytes ≡ b → (z : Bool) → eqb n.1 0 ≡ z → (b && z) ≡ true → (op : ℕ) × (pattern_of ops nts (n ∷ []) ≡ Nullary op)
     go true e true f h =
-        let none : n.1 ≡ 0 = grind (arith, f) in
-        (number_of ops n.0.bytes,
-        ap (λ b. (built (cond b (pattern.Operator (number_of ops n.0.bytes) n.1) (pattern.Nonterminal (number_of nts n.0.bytes)) ∷ [])).0) e ∙ ap (λ k. (built (pattern.Operator (number_of ops n.0.bytes) k ∷ [])).0) none)
+        let none : n.1 ≡ 0 = grind (arith, f) in (
+          number_of ops n.0.bytes,
+          ap (λ b. (built (cond b (pattern.Operator (number_of ops n.0.bytes) n.1) (pattern.Nonterminal (number_of nts n.0.bytes)) ∷ [])).0) e ∙ ap (λ k. (built (pattern.Operator (number_of ops n.0.bytes) k ∷ [])).0) none,
+        )
     go true e false f h = absurd (cc)
     go false e z f h = absurd (cc)
 

@@ -38,4 +38,3 @@ pub mod Known
 pub mod WholeItems
 pub mod KnownPatterns
 pub mod Lawfulness
-

@@ -1,10 +1,10 @@
 -- A pattern whose names are more than their kids is the grammar's, and has no more names than there are.
-use Rattle.std.proofs.Common.{◌≡◌, ℕ, suc, zero, ◌+◌, ◌<◌, ◌≤◌, List, [], ◌∷◌, Some, Bool, true, false, length, refl, ap, sym, ◌∙◌, subst, arith, cond, eqb}
+use Rattle.std.proofs.Common.{◌≡◌, ℕ, suc, zero, ◌+◌, ◌<◌, ◌≤◌, List, [], ◌∷◌, Bool, true, false, length, refl, subst, arith, cond, eqb}
 use Rattle.std.specs.List.{AllByRecursion}
 use Rattle.sel_grammar.specs.Limits.{most_kids}
 use Rattle.sel_grammar.specs.Lawful.{names_of, HasOperator, IsPatternOf}
 use Rattle.sel_grammar.specs.declared.grammar.Grammar.{Grammar}
-use Rattle.sel_grammar.specs.declared.grammar.Pattern.{Pattern, Leaf, Nullary, Unary, Binary}
+use Rattle.sel_grammar.specs.declared.grammar.Pattern.{Pattern, Nullary, Unary, Binary}
 use Rattle.sel_grammar.proofs.PatternShapes.{names_unary, names_binary, is_unary, is_binary}
 use Rattle.sel_grammar_text.specs.declared.pattern.PatternName.{PatternName}
 use Rattle.sel_grammar_text.specs.declared.pattern.PatternName.TheVariants.{Nonterminal, Operator}
@@ -67,16 +67,16 @@ built_fits g (suc n) k (Operator op kids ∷ names) h a e =
     (λ z. let some : kids ≡ 0 → ⊥ = unequal_to kids 0 z in
     chosen (Fits g k (length (Operator op kids ∷ names))) (eqb kids 1) (Unary op (built_to n names).0, (built_to n names).1) _
     (λ u.
-        let single : kids ≡ 1 = equal_to kids 1 u in
-        let f = built_fits g n k names (omega arith) a.1 (omega (arith, single)) in
-        fits_unary g k (length names) op (built_to n names) (subst (HasOperator g op) single a.0.0) f)
+    let single : kids ≡ 1 = equal_to kids 1 u in
+    let f = built_fits g n k names (omega arith) a.1 (omega (arith, single)) in
+    fits_unary g k (length names) op (built_to n names) (subst (HasOperator g op) single a.0.0) f)
     (λ u.
-        let not_one : kids ≡ 1 → ⊥ = unequal_to kids 1 u in
-        let two : kids ≡ 2 = two_left kids a.0.1 some not_one in
-        let f = built_fits g n (suc k) names (omega arith) a.1 (omega (arith, two)) in
-        let short : length (built_to n names).1 ≤ length names = built_shorter n names in
-        let s = built_fits g n k (built_to n names).1 (omega (arith, short)) f.rest f.enough in
-        fits_binary g k (length names) op (built_to n names) (built_to n (built_to n names).1) (subst (HasOperator g op) two a.0.0) f.count f.pattern s))
+    let not_one : kids ≡ 1 → ⊥ = unequal_to kids 1 u in
+    let two : kids ≡ 2 = two_left kids a.0.1 some not_one in
+    let f = built_fits g n (suc k) names (omega arith) a.1 (omega (arith, two)) in
+    let short : length (built_to n names).1 ≤ length names = built_shorter n names in
+    let s = built_fits g n k (built_to n names).1 (omega (arith, short)) f.rest f.enough in
+    fits_binary g k (length names) op (built_to n names) (built_to n (built_to n names).1) (subst (HasOperator g op) two a.0.0) f.count f.pattern s))
   where
     two_left : (kids : ℕ) → kids ≤ most_kids → (kids ≡ 0 → ⊥) → (kids ≡ 1 → ⊥) → kids ≡ 2
     two_left zero h a b = absurd (a refl)

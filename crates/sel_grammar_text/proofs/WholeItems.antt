@@ -1,13 +1,12 @@
 -- What is known of the items of a text without a fault.
-use Rattle.std.proofs.Common.{◌≡◌, ℕ, suc, zero, ◌<◌, ◌≤◌, ◌⊎◌, inl, inr, List, [], ◌∷◌, ◌++◌, Option, Some, None, Bool, true, false, refl, ap, sym, ◌∙◌, subst, arith, cond}
+use Rattle.std.proofs.Common.{◌≡◌, ℕ, suc, zero, ◌<◌, ◌⊎◌, inl, inr, List, [], ◌∷◌, ◌++◌, Option, Some, None, Bool, true, false, refl, ap, sym, ◌∙◌, subst, arith, cond}
 use Rattle.sel_grammar_text.specs.declared.fault.Fault.{Fault}
 use Rattle.sel_grammar_text.specs.declared.form.State.{State}
 use Rattle.sel_grammar_text.specs.declared.form.State.TheVariants.{Ended}
 use Rattle.sel_grammar_text.specs.Items.{Item}
 use Rattle.sel_grammar_text.specs.Names.{rules}
 use Rattle.sel_grammar_text.specs.Spots.{Spot, tokens, first_spots, here}
-use Rattle.sel_grammar_text.specs.Cutting.{Cutting, cutting, with_spot, ends, item_of}
-use Rattle.sel_grammar_text.specs.FormFaults.{HasFormFault}
+use Rattle.sel_grammar_text.specs.Cutting.{Cutting, cutting, ends, item_of}
 use Rattle.sel_grammar_text.specs.ItemFaults.{check_all}
 use Rattle.sel_grammar_text.specs.GrammarText.{HasFault, IsWhole, items_of}
 use Rattle.sel_grammar_text.specs.Machine.{step, run, go, begin, is_border, is_declaring}
@@ -54,9 +53,6 @@ behind_ended c x s u b h e passed =
     let number = tailed_next s u x.token x.at c.left b.tailed h in
     go (is_border u) refl next number
   where
-    new : List Item
-    new = item_of (c.left ++ (x ∷ []))
-
     none : is_declaring u ≡ true → rules c.items ≡ []
     none d = b.no_rules (declared_before s u x.token h d)
 
