@@ -50,3 +50,8 @@ pub mod Commas
 pub mod SpelledNames
 pub mod SpelledNonterminals
 pub mod NameCounts
+pub mod Shape
+pub mod Known
+pub mod WholeItems
+pub mod KnownPatterns
+pub mod Lawfulness

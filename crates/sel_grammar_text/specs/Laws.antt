@@ -1,5 +1,6 @@
 -- Laws of the definitions.
 use Rattle.std.specs.Prelude.{◌≡◌, ℕ, List, ◌⊎◌, Some, None}
+use Rattle.sel_grammar.specs.Lawful.{IsLawful}
 use Rattle.sel_grammar.specs.declared.grammar.Grammar.{Grammar}
 use Rattle.sel_grammar.specs.declared.refusal.GrammarFault.{GrammarFault}
 use Rattle.sel_grammar_text.specs.Tokens.{Token}
@@ -24,6 +25,10 @@ NotGrammarAndFault = (bytes : List ℕ) (g : Grammar) (f : GrammarFault) → Spe
 -- each text spells some grammar or has some fault
 abbrev pub SomeGrammarOrFault : Type 0
 SomeGrammarOrFault = (bytes : List ℕ) → ((g : Grammar) × SpellsGrammar bytes g) ⊎ ((f : GrammarFault) × IsGrammarFault bytes f)
+
+-- each grammar that a text spells keeps its limits, and so do its rules
+abbrev pub SpelledIsLawful : Type 0
+SpelledIsLawful = (bytes : List ℕ) (g : Grammar) → SpellsGrammar bytes g → IsLawful g
 
 -- where there is a state behind the tokens, some text goes on with them
 abbrev pub StateGoesOn : Type 0
