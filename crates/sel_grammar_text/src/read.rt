@@ -1,6 +1,7 @@
 //! Grammars read from text.
 
 ghost use Rattle.std.specs.Prelude.{◌≡◌, ℕ, ◌+◌, ◌-◌, ◌<◌, ◌≤◌, ◌^◌, List, ◌++◌, length, take, IfOk, IfErr, OnOk};
+ghost use Rattle.sel_grammar.specs.Lawful.{IsLawful};
 ghost use Rattle.sel_grammar_text.specs.Extents.{StandsAtItem, HasExtent};
 ghost use Rattle.sel_grammar_text.specs.GrammarText.{SpellsGrammar, GrammarRefusedFor};
 ghost use Rattle.sel_grammar_text.specs.Places.{IsPlaceBehind};
@@ -149,6 +150,7 @@ fn place_of(bytes: &[u8], at: usize) -> Place
 pub fn read_grammar(alloc: Global, bytes: &[u8]) -> Result<Grammar, GrammarRefusal>
     requires short { length bytes.now < 4294967295 }
     ensures ok { IfOk result (λ grammar. SpellsGrammar bytes.now grammar) }
+    ensures lawful { IfOk result (λ grammar. IsLawful grammar) }
     ensures fault { IfErr result (λ refusal. GrammarRefusedFor bytes.now refusal) }
 {
     match read_items(alloc, bytes) {
