@@ -112,7 +112,7 @@ nonterminals_free items k =
     let ops = operators items in
     let ws = flat_map (nonterminal_words ops) (rules items) in
     let free : AllByRecursion (IsFree ops) (bytes_of ws) = subst (λ ts. AllByRecursion (IsFree ops) (bytes_of (flat_map (nonterminal_words ops) ts))) (sym k.rules_are)
-        (rules_free ops (nonterminals items) k.rs k.texts k.good (lefts_free ops k.head k.texts k.operators_are k.pass_rules)) in
+    (rules_free ops (nonterminals items) k.rs k.texts k.good (lefts_free ops k.head k.texts k.operators_are k.pass_rules)) in
     subst (AllByRecursion (IsFree ops)) (sym (with_so [] ws)) (all_with (IsFree ops) [] (bytes_of ws) tt free)
 
 nonterminals_new : (items : List Item) → AreNew [] (nonterminals items)
