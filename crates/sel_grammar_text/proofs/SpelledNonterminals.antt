@@ -1,5 +1,5 @@
 -- The names of the nonterminals in a grammar that a text spells.
-use Rattle.std.proofs.Common.{◌≡◌, ℕ, suc, zero, List, [], ◌∷◌, ◌++◌, Option, Some, None, Bool, true, false, not, refl, ap, sym, ◌∙◌, subst, cond, eqb, ◌||◌, ◌&&◌, append_assoc, append-nil}
+use Rattle.std.proofs.Common.{◌≡◌, ℕ, suc, zero, List, [], ◌∷◌, ◌++◌, Some, None, Bool, true, false, not, refl, ap, sym, ◌∙◌, subst, cond, eqb, ◌||◌, ◌&&◌, append_assoc, append-nil}
 use Rattle.std.specs.Prelude.{slice_get, bytes_eq}
 use Rattle.std.specs.List.{flat_map, AllByRecursion}
 use Rattle.std.proofs.lemmas.List.{map-append}
@@ -7,9 +7,8 @@ use Rattle.std.proofs.lemmas.Option.{same_Some}
 use Rattle.sel_grammar.specs.Names.{IsName}
 use Rattle.sel_grammar_text.specs.Form.{Patterns, no_patterns, pattern, RuleForm}
 use Rattle.sel_grammar_text.specs.Items.{RuleText, Item, RuleItem}
-use Rattle.sel_grammar_text.specs.Names.{is_among, operators, rules, leaves, nonterminal_words, with_words, nonterminals, uses}
+use Rattle.sel_grammar_text.specs.Names.{is_among, operators, rules, nonterminal_words, nonterminals, uses}
 use Rattle.sel_grammar_text.specs.Spots.{here}
-use Rattle.sel_grammar_text.specs.Checks.{place_if}
 use Rattle.sel_grammar_text.specs.ItemFaults.{check, check_all}
 use Rattle.sel_grammar_text.specs.GrammarText.{items_of}
 use Rattle.sel_grammar_text.specs.Meaning.{grammar_of}
@@ -113,7 +112,7 @@ nonterminals_free items k =
     let ops = operators items in
     let ws = flat_map (nonterminal_words ops) (rules items) in
     let free : AllByRecursion (IsFree ops) (bytes_of ws) = subst (λ ts. AllByRecursion (IsFree ops) (bytes_of (flat_map (nonterminal_words ops) ts))) (sym k.rules_are)
-        (rules_free ops (nonterminals items) k.rs k.texts k.good (lefts_free ops k.head k.texts k.operators_are k.pass_rules)) in
+    (rules_free ops (nonterminals items) k.rs k.texts k.good (lefts_free ops k.head k.texts k.operators_are k.pass_rules)) in
     subst (AllByRecursion (IsFree ops)) (sym (with_so [] ws)) (all_with (IsFree ops) [] (bytes_of ws) tt free)
 
 nonterminals_new : (items : List Item) → AreNew [] (nonterminals items)

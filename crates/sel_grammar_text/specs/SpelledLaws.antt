@@ -16,6 +16,6 @@ pub record HasNonterminalNames (g : Grammar) : Type 0 where
 abbrev pub SpelledHasNames : Type 0
 SpelledHasNames = (bytes : List ℕ) (g : Grammar) → SpellsGrammar bytes g → HasNames g
 
--- its nonterminals have names too, no two the same, and none that of an operator
+-- the nonterminals of each grammar that a text spells have names, no two have the same, and none has that of an operator
 abbrev pub SpelledHasNonterminalNames : Type 0
 SpelledHasNonterminalNames = (bytes : List ℕ) (g : Grammar) → SpellsGrammar bytes g → HasNonterminalNames g
