@@ -61,7 +61,11 @@ fn end_of(rt: &(impl Abort + Threads + Sync), alloc: Global, case: &Case<'_>) ->
     Ok(End { status, out, err })
 }
 
-pub fn ends(rt: &(impl Abort + Threads + Sync), alloc: Global, case: &Case<'_>) -> Result<(), Fail> {
+pub fn ends(
+    rt: &(impl Abort + Threads + Sync),
+    alloc: Global,
+    case: &Case<'_>,
+) -> Result<(), Fail> {
     let end = end_of(rt, alloc, case)?;
     assert_eq!(rt; end.status, case.status);
     assert_eq!(rt; end.out.bytes(), case.out.as_bytes());
