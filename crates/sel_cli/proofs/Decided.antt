@@ -6,9 +6,10 @@ use Rattle.sel_base.specs.Causes.{Rose}
 use Rattle.sel_grammar.specs.declared.grammar.Grammar.{Grammar}
 use Rattle.sel_grammar.specs.declared.refusal.GrammarFault.{GrammarFault}
 use Rattle.sel_grammar.specs.Derivations.{Derives}
-use Rattle.sel_grammar.specs.PlainForm.{SpellsGrammar, IsGrammarFault}
-use Rattle.sel_grammar.proofs.PlainGrammars.{grammar_one}
-use Rattle.sel_grammar.proofs.PlainDecided.{fault_one as grammar_fault_one, not_both as grammar_or_fault}
+use Rattle.sel_grammar_text.specs.GrammarText.{SpellsGrammar, IsGrammarFault}
+use Rattle.sel_grammar_text.proofs.OneAnswer.{one_grammar as grammar_one, one_grammar_fault as grammar_fault_one, not_both}
+use Rattle.sel_normal.specs.NormalFaults.{IsAccepted, IsNormalFault}
+use Rattle.sel_normal.proofs.OneFault.{normal_fault_is_one as normal_fault_one, not_accepted_and_fault}
 use Rattle.sel_forest.specs.declared.forest.Cover.{Cover}
 use Rattle.sel_forest.specs.declared.forest.Tree.{Tree}
 use Rattle.sel_forest.specs.declared.forest.Forest.{Forest}
@@ -17,9 +18,10 @@ use Rattle.sel_forest.specs.ForestText.{SpellsForest, IsForestFault}
 use Rattle.sel_forest.proofs.OneForest.{forest_one}
 use Rattle.sel_forest.proofs.OneFault.{fault_one as forest_fault_one, not_forest_and_fault}
 use Rattle.sel_forest.proofs.Roots.{plain_one}
-use Rattle.sel_cli.specs.Words.{TextNames}
+use Rattle.sel_cli.specs.Words.{Job, PrintGrammar, OverForest, Task, forest_name}
+use Rattle.sel_cli.specs.declared.words.Mode.TheVariants as mode
 use Rattle.sel_cli.specs.Output.{AreAnswers, IsTreesAnswer, IsOutput}
-use Rattle.sel_cli.specs.Texts.{Request, IsTold, MayBe, HasGrammarText, AcceptsForest, IsTooLong, RefusesGrammar, RefusesForest, IsWhole, grammar_limit, forest_limit}
+use Rattle.sel_cli.specs.Texts.{Request, IsTold, MayBe, HasGrammarText, HasForestText, AcceptsGrammar, Accepts, IsTooLong, IsRefusedGrammar, RefusesGrammar, RefusesForest, IsWhole, grammar_limit, forest_limit}
 use Rattle.sel_cli.specs.Ends.{Reads, EndsFor, Decides, IsExcused, IsAnswered, finished}
 use Rattle.sel_cli.specs.declared.status.Status.{Status}
 use Rattle.sel_cli.specs.declared.status.Status.TheVariants.{Done, Usage, ReadFault, TooBig, BadGrammar, BadForest, WriteFault, NoMemory, Uncovered}
@@ -34,22 +36,31 @@ data ForestSide : Type 0 where
 data Side : Type 0 where
   long_grammar : Side
   bad_grammar : GrammarFault → Side
-  good_grammar : Grammar → ForestSide → Side
+  alone : Job → Grammar → Side
+  beside : Job → Grammar → ForestSide → Side
 
 abbrev FindsForest : Grammar → List ℕ → ForestSide → Type 0
 FindsForest g text long_forest = forest_limit < length text
 FindsForest g text (bad_forest fault) = (length text ≤ forest_limit) × IsForestFault g text fault
 FindsForest g text (good_forest forest) = (length text ≤ forest_limit) × SpellsForest g text forest
 
-abbrev FindsGrammar : (Option (List ℕ) → List ℕ → Type 0) → Option (List ℕ) → List ℕ → Side → Type 0
-FindsGrammar Is told text long_grammar = grammar_limit < length text
-FindsGrammar Is told text (bad_grammar fault) = (length text ≤ grammar_limit) × IsGrammarFault text fault
-FindsGrammar Is told text (good_grammar g side) = (length text ≤ grammar_limit) × SpellsGrammar text g × ((t : List ℕ) × Is told t × FindsForest g t side)
+-- the text spells the grammar, and it is accepted
+record Spelled (text : List ℕ) (g : Grammar) : Type 0 where
+  within : length text ≤ grammar_limit
+  spelled : SpellsGrammar text g
+  normal : IsAccepted g
+
+abbrev FindsGrammar : (Option (List ℕ) → List ℕ → Type 0) → Request → Task → List ℕ → Side → Type 0
+FindsGrammar Is request task text long_grammar = grammar_limit < length text
+FindsGrammar Is request task text (bad_grammar fault) = (length text ≤ grammar_limit) × IsRefusedGrammar text fault
+FindsGrammar Is request task text (alone job g) = Spelled text g × ((task.job ≡ job) × (forest_name job ≡ None))
+FindsGrammar Is request task text (beside job g side) =
+    Spelled text g × ((task.job ≡ job) × ((name : List ℕ) × (forest_name job ≡ Some name) × ((t : List ℕ) × Is (request.held name) t × FindsForest g t side)))
 
 -- none where the words are no command
 abbrev Finds : (Option (List ℕ) → List ℕ → Type 0) → Request → Option Side → Type 0
 Finds Is request None = request.wanted ≡ None
-Finds Is request (Some side) = (names : TextNames) × (text : List ℕ) × HasGrammarText Is request names text × FindsGrammar Is (request.held names.forest) text side
+Finds Is request (Some side) = (task : Task) × (text : List ℕ) × HasGrammarText Is request task text × FindsGrammar Is request task text side
 
 -- ---- it is one
 
@@ -76,41 +87,73 @@ same_forest_side g text (good_forest forest) long_forest p q = over _ _ q p.0
 same_forest_side g text (good_forest forest) (bad_forest fault) p q = absurd (not_forest_and_fault g text forest fault p.1 q.1)
 same_forest_side g text (good_forest forest) (good_forest other) p q = ap (λ f. good_forest f) (forest_one g text forest other p.1 q.1)
 
-same_side : (told : Option (List ℕ)) (text : List ℕ) (a b : Side) → FindsGrammar MayBe told text a → FindsGrammar IsTold told text b → a ≡ b
-same_side told text long_grammar long_grammar p q = refl
-same_side told text long_grammar (bad_grammar fault) p q = over _ _ p q.0
-same_side told text long_grammar (good_grammar g side) p q = over _ _ p q.0
-same_side told text (bad_grammar fault) long_grammar p q = over _ _ q p.0
-same_side told text (bad_grammar fault) (bad_grammar other) p q = ap (λ f. bad_grammar f) (grammar_fault_one text fault other p.1 q.1)
-same_side told text (bad_grammar fault) (good_grammar g side) p q = absurd (grammar_or_fault text g fault q.1 p.1)
-same_side told text (good_grammar g side) long_grammar p q = over _ _ q p.0
-same_side told text (good_grammar g side) (bad_grammar fault) p q = absurd (grammar_or_fault text g fault p.1 q.1)
-same_side told text (good_grammar g side) (good_grammar h other) (within, spelled, (t, may, found)) (within', spelled', (u, is, found')) =
-    let e : g ≡ h = grammar_one text g h spelled spelled' in
-    let f : t ≡ u = same_text told t u may is in
+-- a text is refused for one fault
+refused_one : (text : List ℕ) (e f : GrammarFault) → IsRefusedGrammar text e → IsRefusedGrammar text f → e ≡ f
+refused_one text e f (inl p) (inl q) = grammar_fault_one text e f p q
+refused_one text e f (inl p) (inr (g, spelled, fault)) = absurd (not_both text g e spelled p)
+refused_one text e f (inr (g, spelled, fault)) (inl q) = absurd (not_both text g f spelled q)
+refused_one text e f (inr (g, spelled, fault)) (inr (h, spelled', fault')) =
+    normal_fault_one g e f fault (subst (λ x. IsNormalFault x f) (grammar_one text h g spelled' spelled) fault')
+
+-- an accepted text is refused for none
+not_refused : {A : Type 0} (text : List ℕ) (g : Grammar) (f : GrammarFault) → Spelled text g → IsRefusedGrammar text f → A
+not_refused text g f s (inl p) = absurd (not_both text g f s.spelled p)
+not_refused text g f s (inr (h, spelled, fault)) =
+    absurd (not_accepted_and_fault g f s.normal (subst (λ x. IsNormalFault x f) (grammar_one text h g spelled s.spelled) fault))
+
+same_side : (request : Request) (task : Task) (text : List ℕ) (a b : Side) → FindsGrammar MayBe request task text a → FindsGrammar IsTold request task text b → a ≡ b
+same_side request task text long_grammar long_grammar p q = refl
+same_side request task text long_grammar (bad_grammar fault) p q = over _ _ p q.0
+same_side request task text long_grammar (alone job g) p q = over _ _ p (q.0).within
+same_side request task text long_grammar (beside job g side) p q = over _ _ p (q.0).within
+same_side request task text (bad_grammar fault) long_grammar p q = over _ _ q p.0
+same_side request task text (bad_grammar fault) (bad_grammar other) p q = ap (λ f. bad_grammar f) (refused_one text fault other p.1 q.1)
+same_side request task text (bad_grammar fault) (alone job g) p q = not_refused text g fault q.0 p.1
+same_side request task text (bad_grammar fault) (beside job g side) p q = not_refused text g fault q.0 p.1
+same_side request task text (alone job g) long_grammar p q = over _ _ q (p.0).within
+same_side request task text (alone job g) (bad_grammar fault) p q = not_refused text g fault p.0 q.1
+same_side request task text (alone job g) (alone job' h) (s, (j, n)) (s', (j', n')) =
+    ap (λ x. alone x g) (sym j ∙ j') ∙ ap (λ x. alone job' x) (grammar_one text g h s.spelled s'.spelled)
+same_side request task text (alone job g) (beside job' h side) (s, (j, n)) (s', (j', (name, n', more))) =
+    some_none (forest_name job') name (ap forest_name (sym j' ∙ j) ∙ n) n'
+same_side request task text (beside job g side) long_grammar p q = over _ _ q (p.0).within
+same_side request task text (beside job g side) (bad_grammar fault) p q = not_refused text g fault p.0 q.1
+same_side request task text (beside job g side) (alone job' h) (s, (j, (name, n, more))) (s', (j', n')) =
+    some_none (forest_name job) name (ap forest_name (sym j ∙ j') ∙ n') n
+same_side request task text (beside job g side) (beside job' h other) (s, (j, (name, n, (t, may, found)))) (s', (j', (name', n', (u, is, found')))) =
+    let same : job ≡ job' = sym j ∙ j' in
+    let e : g ≡ h = grammar_one text g h s.spelled s'.spelled in
+    let named : name ≡ name' = some_same (forest_name job') name name' (ap forest_name (sym same) ∙ n) n' in
+    let may' : MayBe (request.held name') t = subst (λ x. MayBe (request.held x) t) named may in
+    let f : t ≡ u = same_text (request.held name') t u may' is in
     let moved : FindsForest h u side = subst (λ x. FindsForest x u side) e (subst (λ x. FindsForest g x side) f found) in
-    ap (λ x. good_grammar x side) e ∙ ap (λ x. good_grammar h x) (same_forest_side h u side other moved found')
+    ap (λ x. beside x g side) same ∙ ap (λ x. beside job' x side) e ∙ ap (λ x. beside job' h x) (same_forest_side h u side other moved found')
 
 same_found : (request : Request) (a b : Option Side) → Finds MayBe request a → Finds IsTold request b → a ≡ b
 same_found request None None p q = refl
 same_found request None (Some side) p q = some_none request.wanted q.0 p (q.2).asked_for
 same_found request (Some side) None p q = some_none request.wanted p.0 q (p.2).asked_for
-same_found request (Some side) (Some other) (names, text, has, found) (names', text', has', found') =
-    let n : names ≡ names' = some_same request.wanted names names' has.asked_for has'.asked_for in
-    let may : MayBe (request.held names'.grammar) text = subst (λ (x : TextNames). MayBe (request.held x.grammar) text) n has.is_text in
-    let t : text ≡ text' = same_text (request.held names'.grammar) text text' may has'.is_text in
-    let here : FindsGrammar MayBe (request.held names'.forest) text side = subst (λ (x : TextNames). FindsGrammar MayBe (request.held x.forest) text side) n found in
-    ap (λ x. Some x) (same_side (request.held names'.forest) text' side other (subst (λ x. FindsGrammar MayBe (request.held names'.forest) x side) t here) found')
+same_found request (Some side) (Some other) (task, text, has, found) (task', text', has', found') =
+    let n : task ≡ task' = some_same request.wanted task task' has.asked_for has'.asked_for in
+    let may : MayBe (request.held task'.grammar) text = subst (λ (x : Task). MayBe (request.held x.grammar) text) n has.is_text in
+    let t : text ≡ text' = same_text (request.held task'.grammar) text text' may has'.is_text in
+    let here : FindsGrammar MayBe request task' text side = subst (λ (x : Task). FindsGrammar MayBe request x text side) n found in
+    ap (λ x. Some x) (same_side request task' text' side other (subst (λ x. FindsGrammar MayBe request task' x side) t here) found')
 
 -- ---- the status that it shows
+
+-- a task was done with this output
+abbrev ShowsOutput : Job → Grammar → Option Forest → List ℕ → Status → Type 0
+ShowsOutput job g forest bytes status = (covered : Bool) × IsOutput job g forest covered bytes × (status ≡ finished covered)
 
 abbrev Shows : Option Side → List ℕ → Status → Type 0
 Shows None bytes status = status ≡ Usage
 Shows (Some long_grammar) bytes status = status ≡ TooBig
 Shows (Some (bad_grammar fault)) bytes status = status ≡ BadGrammar fault
-Shows (Some (good_grammar g long_forest)) bytes status = status ≡ TooBig
-Shows (Some (good_grammar g (bad_forest fault))) bytes status = status ≡ BadForest fault
-Shows (Some (good_grammar g (good_forest forest))) bytes status = (covered : Bool) × IsOutput g forest covered bytes × (status ≡ finished covered)
+Shows (Some (alone job g)) bytes status = ShowsOutput job g None bytes status
+Shows (Some (beside job g long_forest)) bytes status = status ≡ TooBig
+Shows (Some (beside job g (bad_forest fault))) bytes status = status ≡ BadForest fault
+Shows (Some (beside job g (good_forest forest))) bytes status = ShowsOutput job g (Some forest) bytes status
 
 -- a tree's answer is a cover, or it is none
 same_answer : (g : Grammar) (tree : Tree) (a b : Option Cover) → IsTreesAnswer g tree a → IsTreesAnswer g tree b → is_some a ≡ is_some b
@@ -130,42 +173,76 @@ same_covered g (t ∷ trees) (x ∷ xs) [] p q = absurd q
 same_covered g (t ∷ trees) (x ∷ xs) (y ∷ ys) p q =
     ap (λ c. c && list_all is_some xs) (same_answer g t x y p.0 q.0) ∙ ap (λ c. is_some y && c) (same_covered g trees xs ys p.1 q.1)
 
+-- a job's output tells whether every tree is covered
+same_end : (job : Job) (g : Grammar) (forest : Option Forest) (a b : Bool) (bytes other : List ℕ) → IsOutput job g forest a bytes → IsOutput job g forest b other → a ≡ b
+same_end PrintGrammar g None a b bytes other p q = p.1 ∙ sym q.1
+same_end PrintGrammar g (Some forest) a b bytes other p q = absurd p
+same_end (OverForest mode.Cover name) g None a b bytes other p q = absurd p
+same_end (OverForest mode.Cover name) g (Some forest) a b bytes other p q =
+    sym p.all_covered ∙ same_covered g forest.trees p.answers q.answers p.answer_trees q.answer_trees ∙ q.all_covered
+same_end (OverForest mode.Print name) g None a b bytes other p q = absurd p
+same_end (OverForest mode.Print name) g (Some forest) a b bytes other p q = p.1 ∙ sym q.1
+
+same_output : (job : Job) (g : Grammar) (forest : Option Forest) (bytes other : List ℕ) (status another : Status) → ShowsOutput job g forest bytes status → ShowsOutput job g forest other another → status ≡ another
+same_output job g forest bytes other status another (covered, output, is) (covered', output', is') =
+    is ∙ ap finished (same_end job g forest covered covered' bytes other output output') ∙ sym is'
+
 same_shown : (side : Option Side) (bytes other : List ℕ) (status another : Status) → Shows side bytes status → Shows side other another → status ≡ another
 same_shown None bytes other status another p q = p ∙ sym q
 same_shown (Some long_grammar) bytes other status another p q = p ∙ sym q
 same_shown (Some (bad_grammar fault)) bytes other status another p q = p ∙ sym q
-same_shown (Some (good_grammar g long_forest)) bytes other status another p q = p ∙ sym q
-same_shown (Some (good_grammar g (bad_forest fault))) bytes other status another p q = p ∙ sym q
-same_shown (Some (good_grammar g (good_forest forest))) bytes other status another (covered, output, is) (covered', output', is') =
-    let e : covered ≡ covered' = sym output.all_covered ∙ same_covered g forest.trees output.answers output'.answers output.answer_trees output'.answer_trees ∙ output'.all_covered in
-    is ∙ ap finished e ∙ sym is'
+same_shown (Some (alone job g)) bytes other status another p q = same_output job g None bytes other status another p q
+same_shown (Some (beside job g long_forest)) bytes other status another p q = p ∙ sym q
+same_shown (Some (beside job g (bad_forest fault))) bytes other status another p q = p ∙ sym q
+same_shown (Some (beside job g (good_forest forest))) bytes other status another p q = same_output job g (Some forest) bytes other status another p q
 
 -- ---- from what is told
 
 abbrev Found : (Option (List ℕ) → List ℕ → Type 0) → Request → List ℕ → Status → Type 0
 Found Is request bytes status = (side : Option Side) × Finds Is request side × Shows side bytes status
 
+spelled_by : (Is : Option (List ℕ) → List ℕ → Type 0) (request : Request) (task : Task) (g : Grammar) (a : AcceptsGrammar Is request task g) → Spelled a.text g
+spelled_by Is request task g a = record { within = a.within; spelled = a.spelled; normal = a.normal }
+
+-- what is found of the forest's text, behind an accepted grammar
+forest_found : (Is : Option (List ℕ) → List ℕ → Type 0) (request : Request) (task : Task) (g : Grammar) (name text : List ℕ) (side : ForestSide)
+    → HasForestText Is request task g name text → FindsForest g text side → Finds Is request (Some (beside task.job g side))
+forest_found Is request task g name text side has found =
+    let a = has.accepts_grammar in
+    (task, a.text, a.has, (spelled_by Is request task g a, (refl, (name, has.is_named, (text, has.is_text, found)))))
+
 long_found : (Is : Option (List ℕ) → List ℕ → Type 0) (request : Request) (name : List ℕ) (limit : ℕ) (bytes : List ℕ) → IsTooLong Is request name limit → Found Is request bytes TooBig
-long_found Is request name limit bytes (inl (names, text, has, named, l, long)) = (Some long_grammar, (names, text, has, subst (λ k. k < length text) l long), refl)
-long_found Is request name limit bytes (inr (names, g, text, has, named, l, long)) =
-    (Some (good_grammar g long_forest), (names, has.accepts_grammar.text, has.accepts_grammar.has, (has.accepts_grammar.within, has.accepts_grammar.spelled, (text, has.is_text, subst (λ k. k < length text) l long))), refl)
+long_found Is request name limit bytes (inl (task, text, has, named, l, long)) = (Some long_grammar, (task, text, has, subst (λ k. k < length text) l long), refl)
+long_found Is request name limit bytes (inr (task, g, text, has, l, long)) =
+    (Some (beside task.job g long_forest), forest_found Is request task g name text long_forest has (subst (λ k. k < length text) l long), refl)
 
 bad_grammar_found : (Is : Option (List ℕ) → List ℕ → Type 0) (request : Request) (name : List ℕ) (fault : GrammarFault) (bytes : List ℕ) → RefusesGrammar Is request name fault → Found Is request bytes (BadGrammar fault)
-bad_grammar_found Is request name fault bytes r = (Some (bad_grammar fault), (r.names, r.text, r.has, (r.within, r.refused)), refl)
+bad_grammar_found Is request name fault bytes r = (Some (bad_grammar fault), (r.task, r.text, r.has, (r.within, r.refused)), refl)
 
 bad_forest_found : (Is : Option (List ℕ) → List ℕ → Type 0) (request : Request) (name : List ℕ) (fault : ForestFault) (bytes : List ℕ) → RefusesForest Is request name fault → Found Is request bytes (BadForest fault)
 bad_forest_found Is request name fault bytes r =
-    let a = r.has.accepts_grammar in
-    (Some (good_grammar r.grammar (bad_forest fault)), (r.names, a.text, a.has, (a.within, a.spelled, (r.text, r.has.is_text, (r.within, r.refused)))), refl)
+    (Some (beside (r.task).job r.grammar (bad_forest fault)), forest_found Is request r.task r.grammar name r.text (bad_forest fault) r.has (r.within, r.refused), refl)
 
-accepted_found : (Is : Option (List ℕ) → List ℕ → Type 0) (request : Request) (g : Grammar) (forest : Forest) → AcceptsForest Is request g forest → Finds Is request (Some (good_grammar g (good_forest forest)))
-accepted_found Is request g forest r =
-    let a = r.has.accepts_grammar in
-    (r.names, a.text, a.has, (a.within, a.spelled, (r.text, r.has.is_text, (r.within, r.spelled))))
+-- what is found of a task whose texts are accepted
+abbrev side_of : Task → Grammar → Option Forest → Side
+side_of task g None = alone task.job g
+side_of task g (Some forest) = beside task.job g (good_forest forest)
+
+accepted_found : (Is : Option (List ℕ) → List ℕ → Type 0) (request : Request) (task : Task) (g : Grammar) (forest : Option Forest) → Accepts Is request task g forest → Finds Is request (Some (side_of task g forest))
+accepted_found Is request task g None (a, n) = (task, a.text, a.has, (spelled_by Is request task g a, (refl, n)))
+accepted_found Is request task g (Some forest) a = forest_found Is request task g a.name a.text (good_forest forest) a.has (a.within, a.spelled)
+
+output_shown : (task : Task) (g : Grammar) (forest : Option Forest) (bytes : List ℕ) (status : Status) → ShowsOutput task.job g forest bytes status → Shows (Some (side_of task g forest)) bytes status
+output_shown task g None bytes status s = s
+output_shown task g (Some forest) bytes status s = s
+
+shown_output : (task : Task) (g : Grammar) (forest : Option Forest) (bytes : List ℕ) (status : Status) → Shows (Some (side_of task g forest)) bytes status → ShowsOutput task.job g forest bytes status
+shown_output task g None bytes status s = s
+shown_output task g (Some forest) bytes status s = s
 
 whole_found : (Is : Option (List ℕ) → List ℕ → Type 0) (request : Request) (covered : Bool) (bytes : List ℕ) → IsWhole Is request covered bytes → Found Is request bytes (finished covered)
-whole_found Is request covered bytes (g, forest, accepts, output) =
-    (Some (good_grammar g (good_forest forest)), accepted_found Is request g forest accepts, (covered, output, refl))
+whole_found Is request covered bytes (task, g, forest, accepts, output) =
+    (Some (side_of task g forest), accepted_found Is request task g forest accepts, output_shown task g forest bytes (finished covered) (covered, output, refl))
 
 decides_found : (request : Request) (status : Status) → Decides request status → (bytes : List ℕ) × Found IsTold request bytes status
 decides_found request Usage d = ([], (None, d, refl))
@@ -224,13 +301,13 @@ excused_ends request reads before after name bytes (BadForest fault) nr nw ends 
 
 pub completes : (request : Request) (reads : Reads) (before after : ℕ) (name bytes : List ℕ) (result : Status) (old new : Option (List ℕ))
     → new ≡ append_known old bytes → EndsFor request reads before after name bytes result
-    → (g : Grammar) (forest : Forest) → AcceptsForest IsTold request g forest → ¬ Rose reads.before reads.after → ¬ Rose before after
-    → (result ≡ NoMemory) ⊎ IsAnswered g forest old new result
-completes request reads before after name bytes result old new written ends g forest accepts nr nw = go (ends_found request reads before after name bytes result ends)
+    → (task : Task) (g : Grammar) (forest : Option Forest) → Accepts IsTold request task g forest → ¬ Rose reads.before reads.after → ¬ Rose before after
+    → (result ≡ NoMemory) ⊎ IsAnswered task.job g forest old new result
+completes request reads before after name bytes result old new written ends task g forest accepts nr nw = go (ends_found request reads before after name bytes result ends)
   where
-    go : IsExcused result ⊎ Found MayBe request bytes result → (result ≡ NoMemory) ⊎ IsAnswered g forest old new result
+    go : IsExcused result ⊎ Found MayBe request bytes result → (result ≡ NoMemory) ⊎ IsAnswered task.job g forest old new result
     go (inl x) = inl (excused_ends request reads before after name bytes result nr nw ends x)
     go (inr (side, found, shows)) =
-        let e : side ≡ Some (good_grammar g (good_forest forest)) = same_found request side (Some (good_grammar g (good_forest forest))) found (accepted_found IsTold request g forest accepts) in
-        let shown : Shows (Some (good_grammar g (good_forest forest))) bytes result = subst (λ s. Shows s bytes result) e shows in
+        let e : side ≡ Some (side_of task g forest) = same_found request side (Some (side_of task g forest)) found (accepted_found IsTold request task g forest accepts) in
+        let shown = shown_output task g forest bytes result (subst (λ s. Shows s bytes result) e shows) in
         inr (record { covered = shown.0; bytes = bytes; output = shown.1; written = written; finishes = shown.2 })

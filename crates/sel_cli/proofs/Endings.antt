@@ -1,14 +1,19 @@
 -- How the parts of the top call end, and so the whole.
-use Rattle.std.proofs.Common.{◌≡◌, ℕ, ◌+◌, ◌<◌, ◌≤◌, List, length, take, drop, replicate, Option, Some, None, IfSome, refl, sym, ap, subst, ◌∙◌, inl, inr, arith, take-append-drop}
+use Rattle.std.proofs.Common.{◌≡◌, ℕ, ◌+◌, ◌<◌, ◌≤◌, Bool, true, false, List, length, take, drop, replicate, Option, Some, None, IfSome, refl, sym, ap, subst, ◌∙◌, inl, inr, arith, take-append-drop}
 use Rattle.std.proofs.lemmas.List.{length-replicate}
 use Rattle.sel_base.specs.Causes.{Rose}
 use Rattle.sel_base.specs.Reads.{LastRead}
 use Rattle.sel_grammar.specs.declared.grammar.Grammar.{Grammar}
+use Rattle.sel_grammar.specs.declared.refusal.GrammarRefusal.{GrammarRefusal}
+use Rattle.sel_grammar.specs.declared.refusal.GrammarRefusal.TheVariants as refusal
+use Rattle.sel_grammar_text.specs.GrammarText.{SpellsGrammar}
+use Rattle.sel_normal.specs.NormalFaults.{NormalRefusedFor}
 use Rattle.sel_forest.specs.declared.forest.Forest.{Forest}
-use Rattle.sel_cli.specs.Words.{TextNames}
-use Rattle.sel_cli.specs.Texts.{Request, MayBe, AcceptsGrammar, AcceptsForest, grammar_limit, forest_limit}
-use Rattle.sel_cli.specs.Ends.{Reads, StopsFor, EndsFor, IsFrontOf}
-use Rattle.sel_cli.specs.Parts.{FetchesFor, AnswersFor}
+use Rattle.sel_cli.specs.Words.{Job, Task, forest_name, last_name}
+use Rattle.sel_cli.specs.Output.{IsOutput}
+use Rattle.sel_cli.specs.Texts.{Request, MayBe, AcceptsGrammar, Accepts, grammar_limit, forest_limit}
+use Rattle.sel_cli.specs.Ends.{Reads, StopsFor, EndsFor, WritesJobFor, IsFrontOf, WasRead, ReadsFor}
+use Rattle.sel_cli.specs.Parts.{FetchesFor, JudgedFor, PutsFor}
 use Rattle.sel_cli.specs.declared.status.Status.{Status}
 use Rattle.sel_cli.specs.declared.status.Status.TheVariants.{Done, Usage, ReadFault, TooBig, BadGrammar, BadForest, WriteFault, NoMemory, Uncovered}
 
@@ -27,35 +32,36 @@ pub take_front : (n : ℕ) (whole : List ℕ) → IsFrontOf (take n whole) whole
 take_front n whole = (drop n whole, sym (take-append-drop n whole))
 
 -- the grammar's text was not read
-pub fetch_grammar_stops : (request : Request) (names : TextNames) (reads : Reads) (status : Status) → request.wanted ≡ Some names
-    → FetchesFor (request.held names.grammar) reads names.grammar grammar_limit status → StopsFor request reads names.grammar status
-fetch_grammar_stops request names reads ReadFault w f = record { is_wanted = (names, w, inl refl); rose = f.0; last_name = f.1; last_failed = f.2 }
-fetch_grammar_stops request names reads TooBig w f =
-    let long = longer_text (request.held names.grammar) grammar_limit f.0 in
-    record { limit = grammar_limit; too_long = inl (names, long.0, record { asked_for = w; is_text = long.1 }, refl, refl, long.2); last_name = f.1; last_count = f.2 }
-fetch_grammar_stops request names reads NoMemory w f = tt
-fetch_grammar_stops request names reads Done w f = absurd f
-fetch_grammar_stops request names reads Usage w f = absurd f
-fetch_grammar_stops request names reads (BadGrammar fault) w f = absurd f
-fetch_grammar_stops request names reads (BadForest fault) w f = absurd f
-fetch_grammar_stops request names reads WriteFault w f = absurd f
-fetch_grammar_stops request names reads Uncovered w f = absurd f
+pub fetch_grammar_stops : (request : Request) (task : Task) (reads : Reads) (status : Status) → request.wanted ≡ Some task
+    → FetchesFor (request.held task.grammar) reads task.grammar grammar_limit status → StopsFor request reads task.grammar status
+fetch_grammar_stops request task reads ReadFault w f = record { is_wanted = (task, w, inl refl); rose = f.0; last_name = f.1; last_failed = f.2 }
+fetch_grammar_stops request task reads TooBig w f =
+    let long = longer_text (request.held task.grammar) grammar_limit f.0 in
+    record { limit = grammar_limit; too_long = inl (task, long.0, record { asked_for = w; is_text = long.1 }, refl, refl, long.2); last_name = f.1; last_count = f.2 }
+fetch_grammar_stops request task reads NoMemory w f = tt
+fetch_grammar_stops request task reads Done w f = absurd f
+fetch_grammar_stops request task reads Usage w f = absurd f
+fetch_grammar_stops request task reads (BadGrammar fault) w f = absurd f
+fetch_grammar_stops request task reads (BadForest fault) w f = absurd f
+fetch_grammar_stops request task reads WriteFault w f = absurd f
+fetch_grammar_stops request task reads Uncovered w f = absurd f
 
 -- the forest's text was not read
-pub fetch_forest_stops : (request : Request) (names : TextNames) (grammar : Grammar) (reads : Reads) (status : Status) → AcceptsGrammar MayBe request names grammar
-    → FetchesFor (request.held names.forest) reads names.forest forest_limit status → StopsFor request reads names.forest status
-fetch_forest_stops request names grammar reads ReadFault a f =
-    record { is_wanted = (names, a.has.asked_for, inr (grammar, a, refl)); rose = f.0; last_name = f.1; last_failed = f.2 }
-fetch_forest_stops request names grammar reads TooBig a f =
-    let long = longer_text (request.held names.forest) forest_limit f.0 in
-    record { limit = forest_limit; too_long = inr (names, grammar, long.0, record { accepts_grammar = a; is_text = long.1 }, refl, refl, long.2); last_name = f.1; last_count = f.2 }
-fetch_forest_stops request names grammar reads NoMemory a f = tt
-fetch_forest_stops request names grammar reads Done a f = absurd f
-fetch_forest_stops request names grammar reads Usage a f = absurd f
-fetch_forest_stops request names grammar reads (BadGrammar fault) a f = absurd f
-fetch_forest_stops request names grammar reads (BadForest fault) a f = absurd f
-fetch_forest_stops request names grammar reads WriteFault a f = absurd f
-fetch_forest_stops request names grammar reads Uncovered a f = absurd f
+pub fetch_forest_stops : (request : Request) (task : Task) (grammar : Grammar) (name : List ℕ) (reads : Reads) (status : Status)
+    → AcceptsGrammar MayBe request task grammar → forest_name task.job ≡ Some name
+    → FetchesFor (request.held name) reads name forest_limit status → StopsFor request reads name status
+fetch_forest_stops request task grammar name reads ReadFault a n f =
+    record { is_wanted = (task, a.has.asked_for, inr (grammar, a, n)); rose = f.0; last_name = f.1; last_failed = f.2 }
+fetch_forest_stops request task grammar name reads TooBig a n f =
+    let long = longer_text (request.held name) forest_limit f.0 in
+    record { limit = forest_limit; too_long = inr (task, grammar, long.0, record { accepts_grammar = a; is_named = n; is_text = long.1 }, refl, long.2); last_name = f.1; last_count = f.2 }
+fetch_forest_stops request task grammar name reads NoMemory a n f = tt
+fetch_forest_stops request task grammar name reads Done a n f = absurd f
+fetch_forest_stops request task grammar name reads Usage a n f = absurd f
+fetch_forest_stops request task grammar name reads (BadGrammar fault) a n f = absurd f
+fetch_forest_stops request task grammar name reads (BadForest fault) a n f = absurd f
+fetch_forest_stops request task grammar name reads WriteFault a n f = absurd f
+fetch_forest_stops request task grammar name reads Uncovered a n f = absurd f
 
 -- what stopped by the reads of a part of the call stopped so by those of all of it
 pub stop_later : (request : Request) (reads later : Reads) (name : List ℕ) (status : Status) → later.before ≤ reads.before → later.after ≡ reads.after → later.last ≡ reads.last
@@ -80,16 +86,63 @@ stop_later request reads later name Done le after last s = absurd s
 stop_later request reads later name WriteFault le after last s = absurd s
 stop_later request reads later name Uncovered le after last s = absurd s
 
--- an accepted forest was answered
-pub answer_ends : (request : Request) (reads : Reads) (before after : ℕ) (name bytes : List ℕ) (grammar : Grammar) (forest : Forest) (status : Status)
-    → AcceptsForest MayBe request grammar forest → AnswersFor grammar forest before after bytes status → EndsFor request reads before after name bytes status
-answer_ends request reads before after name bytes grammar forest WriteFault a f = inr (f.0, (grammar, forest, a, f.1))
-answer_ends request reads before after name bytes grammar forest NoMemory a (inl f) = inl (f, tt)
-answer_ends request reads before after name bytes grammar forest NoMemory a (inr f) = inr (grammar, forest, a, f)
-answer_ends request reads before after name bytes grammar forest Done a f = inr (grammar, forest, a, f)
-answer_ends request reads before after name bytes grammar forest Uncovered a f = inr (grammar, forest, a, f)
-answer_ends request reads before after name bytes grammar forest Usage a f = absurd f
-answer_ends request reads before after name bytes grammar forest ReadFault a f = absurd f
-answer_ends request reads before after name bytes grammar forest TooBig a f = absurd f
-answer_ends request reads before after name bytes grammar forest (BadGrammar fault) a f = absurd f
-answer_ends request reads before after name bytes grammar forest (BadForest fault) a f = absurd f
+moved : (job : Job) (grammar : Grammar) (forest : Option Forest) (covered to : Bool) (whole bytes : List ℕ) → covered ≡ to → whole ≡ bytes
+    → IsOutput job grammar forest covered whole → IsOutput job grammar forest to bytes
+moved job grammar forest covered to whole bytes c w o = subst (λ b. IsOutput job grammar forest to b) w (subst (λ b. IsOutput job grammar forest b whole) c o)
+
+-- bytes that were put are a job's output, or a front of it
+pub puts_job : (job : Job) (grammar : Grammar) (forest : Option Forest) (covered : Bool) (whole : List ℕ) (before after : ℕ) (bytes : List ℕ) (status : Status)
+    → IsOutput job grammar forest covered whole → PutsFor covered whole before after bytes status → WritesJobFor job grammar forest before after bytes status
+puts_job job grammar forest covered whole before after bytes WriteFault o p = (p.0, (covered, whole, o, p.1))
+puts_job job grammar forest covered whole before after bytes NoMemory o p = inr (covered, whole, o, p)
+puts_job job grammar forest covered whole before after bytes Done o p = moved job grammar forest covered true whole bytes (p.0) (sym p.1) o
+puts_job job grammar forest covered whole before after bytes Uncovered o p = moved job grammar forest covered false whole bytes (p.0) (sym p.1) o
+puts_job job grammar forest covered whole before after bytes Usage o p = absurd p
+puts_job job grammar forest covered whole before after bytes ReadFault o p = absurd p
+puts_job job grammar forest covered whole before after bytes TooBig o p = absurd p
+puts_job job grammar forest covered whole before after bytes (BadGrammar fault) o p = absurd p
+puts_job job grammar forest covered whole before after bytes (BadForest fault) o p = absurd p
+
+-- an accepted task was done, whose job is this
+pub job_ends : (request : Request) (reads : Reads) (before after : ℕ) (name bytes : List ℕ) (task : Task) (job : Job) (grammar : Grammar) (forest : Option Forest) (status : Status)
+    → task.job ≡ job → Accepts MayBe request task grammar forest → WritesJobFor job grammar forest before after bytes status → EndsFor request reads before after name bytes status
+job_ends request reads before after name bytes task job grammar forest status e a f = go status (subst (λ j. WritesJobFor j grammar forest before after bytes status) (sym e) f)
+  where
+    go : (status : Status) → WritesJobFor task.job grammar forest before after bytes status → EndsFor request reads before after name bytes status
+    go WriteFault f = inr (f.0, (task, grammar, forest, a, f.1))
+    go NoMemory (inl f) = inl (f, tt)
+    go NoMemory (inr f) = inr (task, grammar, forest, a, f)
+    go Done f = inr (task, grammar, forest, a, f)
+    go Uncovered f = inr (task, grammar, forest, a, f)
+    go Usage f = absurd f
+    go ReadFault f = absurd f
+    go TooBig f = absurd f
+    go (BadGrammar fault) f = absurd f
+    go (BadForest fault) f = absurd f
+
+-- what ended so by the reads of a part of the call ended so by those of all of it
+pub ends_later : (request : Request) (reads later : Reads) (before after : ℕ) (name bytes : List ℕ) (status : Status)
+    → later.before ≤ reads.before → later.after ≡ reads.after → later.last ≡ reads.last → EndsFor request reads before after name bytes status → EndsFor request later before after name bytes status
+ends_later request reads later before after name bytes status le a l (inl (none, stops)) = inl (none, stop_later request reads later name status le a l stops)
+ends_later request reads later before after name bytes status le a l (inr w) = inr w
+
+-- a grammar whose normal form is refused is refused
+pub normal_judged : (text : List ℕ) (grammar : Grammar) (why : GrammarRefusal) → SpellsGrammar text grammar → NormalRefusedFor grammar why → JudgedFor text why
+normal_judged text grammar (refusal.Fault fault) s f = inr (grammar, s, f)
+normal_judged text grammar refusal.NoMemory s f = tt
+
+-- what was read last where a task was done
+pub done_reads : (task : Task) (reads : Reads) (name : List ℕ) (job : Job) (grammar : Grammar) (forest : Option Forest) (before after : ℕ) (bytes : List ℕ) (status : Status)
+    → last_name task ≡ name → WasRead reads name → WritesJobFor job grammar forest before after bytes status → ReadsFor (Some task) reads status
+done_reads task reads name job grammar forest before after bytes status e r f = go status (subst (WasRead reads) (sym e) r) f
+  where
+    go : (status : Status) → WasRead reads (last_name task) → WritesJobFor job grammar forest before after bytes status → ReadsFor (Some task) reads status
+    go WriteFault r f = r
+    go NoMemory r f = tt
+    go Done r f = r
+    go Uncovered r f = r
+    go Usage r f = absurd f
+    go ReadFault r f = absurd f
+    go TooBig r f = absurd f
+    go (BadGrammar fault) r f = absurd f
+    go (BadForest fault) r f = absurd f

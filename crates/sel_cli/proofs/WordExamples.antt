@@ -1,14 +1,14 @@
 -- Lists of words, with what they ask for, by hand.
 use Rattle.std.proofs.Common.{◌≡◌, [], ◌∷◌, Option, Some, None, refl, codes}
 use Rattle.sel_cli.specs.declared.settings.Settings.{Settings}
-use Rattle.sel_cli.specs.declared.words.Mode.TheVariants.{Cover}
-use Rattle.sel_cli.specs.Words.{Task, command}
+use Rattle.sel_cli.specs.declared.words.Mode.TheVariants.{Cover, Print}
+use Rattle.sel_cli.specs.Words.{Task, PrintGrammar, OverForest, command}
 
 abbrev plain_settings : Settings
 plain_settings = record { workers = 4; states = 4096; rows = 65536; seed = 1; trees = 1000; size = 64 }
 
 abbrev plain : Settings → Option Task
-plain settings = Some (record { mode = Cover; names = record { grammar = codes "g0"; forest = codes "f" }; settings = settings })
+plain settings = Some (record { job = OverForest Cover (codes "f"); grammar = codes "g0"; settings = settings })
 
 abbrev no : Option Task
 no = None
@@ -27,6 +27,18 @@ behind_hyphens = refl
 
 no_words : command [] ≡ no
 no_words = refl
+
+grammar_alone : command (codes "print" ∷ codes "g0" ∷ []) ≡ Some (record { job = PrintGrammar; grammar = codes "g0"; settings = plain_settings })
+grammar_alone = refl
+
+forest_printed : command (codes "print" ∷ codes "--size" ∷ codes "7" ∷ codes "g0" ∷ codes "f" ∷ []) ≡ Some (record { job = OverForest Print (codes "f"); grammar = codes "g0"; settings = record plain_settings { size = 7 } })
+forest_printed = refl
+
+print_of_three : command (codes "print" ∷ codes "g0" ∷ codes "f" ∷ codes "f" ∷ []) ≡ no
+print_of_three = refl
+
+print_alone : command (codes "print" ∷ []) ≡ no
+print_alone = refl
 
 too_few : command (codes "cover" ∷ codes "g0" ∷ []) ≡ no
 too_few = refl

@@ -5,9 +5,9 @@ use Rattle.sel_base.specs.Causes.{Rose}
 use Rattle.sel_base.specs.Reads.{LastRead}
 use Rattle.sel_grammar.specs.declared.grammar.Grammar.{Grammar}
 use Rattle.sel_forest.specs.declared.forest.Forest.{Forest}
-use Rattle.sel_cli.specs.Words.{TextNames}
+use Rattle.sel_cli.specs.Words.{Job, Task, forest_name, last_name}
 use Rattle.sel_cli.specs.Output.{IsOutput}
-use Rattle.sel_cli.specs.Texts.{Request, IsTold, MayBe, AcceptsGrammar, AcceptsForest, IsTooLong, RefusesGrammar, RefusesForest, IsWhole}
+use Rattle.sel_cli.specs.Texts.{Request, IsTold, MayBe, AcceptsGrammar, Accepts, IsTooLong, RefusesGrammar, RefusesForest, IsWhole}
 use Rattle.sel_cli.specs.Lines.{status_line}
 use Rattle.sel_cli.specs.declared.status.Status.{Status}
 use Rattle.sel_cli.specs.declared.status.Status.TheVariants.{Done, Usage, ReadFault, TooBig, BadGrammar, BadForest, WriteFault, NoMemory, Uncovered}
@@ -20,8 +20,8 @@ pub record Reads : Type 0 where
 
 -- the text of this name is the next to be read: the grammar's, or the forest's behind an accepted grammar
 abbrev pub IsWanted : Request → List ℕ → Type 0
-IsWanted request name = (names : TextNames) × (request.wanted ≡ Some names)
-    × ((name ≡ names.grammar) ⊎ ((grammar : Grammar) × AcceptsGrammar MayBe request names grammar × (name ≡ names.forest)))
+IsWanted request name = (task : Task) × (request.wanted ≡ Some task)
+    × ((name ≡ task.grammar) ⊎ ((grammar : Grammar) × AcceptsGrammar MayBe request task grammar × (forest_name task.job ≡ Some name)))
 
 -- the count of faults rose, and the last read was of this text and failed
 pub record IsUnread (request : Request) (reads : Reads) (name : List ℕ) : Type 0 where
@@ -50,15 +50,15 @@ StopsFor request reads name _ = ⊥
 abbrev pub IsFrontOf : List ℕ → List ℕ → Type 0
 IsFrontOf front whole = (rest : List ℕ) × (whole ≡ front ++ rest)
 
--- the bytes are a front of this forest's output
-abbrev pub IsFrontOfAnswers : Grammar → Forest → List ℕ → Type 0
-IsFrontOfAnswers grammar forest bytes = (covered : Bool) × (whole : List ℕ) × IsOutput grammar forest covered whole × IsFrontOf bytes whole
+-- the bytes are a front of the job's output
+abbrev pub IsFrontOfJob : Job → Grammar → Option Forest → List ℕ → Type 0
+IsFrontOfJob job grammar forest bytes = (covered : Bool) × (whole : List ℕ) × IsOutput job grammar forest covered whole × IsFrontOf bytes whole
 
--- the bytes are a front of the output of an accepted forest
+-- the bytes are a front of the output of a task whose texts are accepted
 abbrev pub IsFrontOfOutput : Request → List ℕ → Type 0
-IsFrontOfOutput request bytes = (grammar : Grammar) × (forest : Forest) × AcceptsForest MayBe request grammar forest × IsFrontOfAnswers grammar forest bytes
+IsFrontOfOutput request bytes = (task : Task) × (grammar : Grammar) × (forest : Option Forest) × Accepts MayBe request task grammar forest × IsFrontOfJob task.job grammar forest bytes
 
--- how the writing of an accepted forest's output ended, where the sink's count of faults went from `before` to `after`
+-- how the writing of an accepted task's output ended, where the sink's count of faults went from `before` to `after`
 abbrev pub WritesFor : Request → ℕ → ℕ → List ℕ → Status → Type 0
 WritesFor request before after bytes WriteFault = Rose before after × IsFrontOfOutput request bytes
 WritesFor request before after bytes NoMemory = IsFrontOfOutput request bytes
@@ -66,7 +66,15 @@ WritesFor request before after bytes Uncovered = IsWhole MayBe request false byt
 WritesFor request before after bytes Done = IsWhole MayBe request true bytes
 WritesFor request before after bytes _ = ⊥
 
--- why the call ended with this status: it stopped before it wrote, or it answered an accepted forest and wrote these bytes
+-- the same of one job
+abbrev pub WritesJobFor : Job → Grammar → Option Forest → ℕ → ℕ → List ℕ → Status → Type 0
+WritesJobFor job grammar forest before after bytes WriteFault = Rose before after × IsFrontOfJob job grammar forest bytes
+WritesJobFor job grammar forest before after bytes NoMemory = (bytes ≡ []) ⊎ IsFrontOfJob job grammar forest bytes
+WritesJobFor job grammar forest before after bytes Uncovered = IsOutput job grammar forest false bytes
+WritesJobFor job grammar forest before after bytes Done = IsOutput job grammar forest true bytes
+WritesJobFor job grammar forest before after bytes _ = ⊥
+
+-- why the call ended with this status: it stopped before it wrote, or it did an accepted task and wrote these bytes
 abbrev pub EndsFor : Request → Reads → ℕ → ℕ → List ℕ → List ℕ → Status → Type 0
 EndsFor request reads before after name bytes status = ((bytes ≡ []) × StopsFor request reads name status) ⊎ WritesFor request before after bytes status
 
@@ -102,11 +110,11 @@ abbrev pub finished : Bool → Status
 finished true = Done
 finished false = Uncovered
 
--- all of the forest's output was taken, and the status tells whether every tree is covered
-pub record IsAnswered (grammar : Grammar) (forest : Forest) (out_before out_after : Option (List ℕ)) (status : Status) : Type 0 where
+-- all of the job's output was taken, and the status tells whether every tree is covered
+pub record IsAnswered (job : Job) (grammar : Grammar) (forest : Option Forest) (out_before out_after : Option (List ℕ)) (status : Status) : Type 0 where
   pub covered : Bool
   pub bytes : List ℕ
-  pub output : IsOutput grammar forest covered bytes
+  pub output : IsOutput job grammar forest covered bytes
   pub written : out_after ≡ append_known out_before bytes
   pub finishes : status ≡ finished covered
 
@@ -114,11 +122,11 @@ pub record IsAnswered (grammar : Grammar) (forest : Forest) (out_before out_afte
 abbrev pub WasRead : Reads → List ℕ → Type 0
 WasRead reads name = (reads.last.name ≡ name) × (reads.last.failed ≡ false)
 
--- what was read last: the grammar's text where it is refused, and the forest's where it is refused or answered
-abbrev pub ReadsFor : Option TextNames → Reads → Status → Type 0
-ReadsFor wanted reads (BadGrammar fault) = IfSome wanted (λ names. WasRead reads names.grammar)
-ReadsFor wanted reads (BadForest fault) = IfSome wanted (λ names. WasRead reads names.forest)
-ReadsFor wanted reads Done = IfSome wanted (λ names. WasRead reads names.forest)
-ReadsFor wanted reads Uncovered = IfSome wanted (λ names. WasRead reads names.forest)
-ReadsFor wanted reads WriteFault = IfSome wanted (λ names. WasRead reads names.forest)
+-- what was read last: the grammar's text where it is refused, the forest's where that is, and the last of the task's where it is done
+abbrev pub ReadsFor : Option Task → Reads → Status → Type 0
+ReadsFor wanted reads (BadGrammar fault) = IfSome wanted (λ task. WasRead reads task.grammar)
+ReadsFor wanted reads (BadForest fault) = IfSome wanted (λ task. WasRead reads (last_name task))
+ReadsFor wanted reads Done = IfSome wanted (λ task. WasRead reads (last_name task))
+ReadsFor wanted reads Uncovered = IfSome wanted (λ task. WasRead reads (last_name task))
+ReadsFor wanted reads WriteFault = IfSome wanted (λ task. WasRead reads (last_name task))
 ReadsFor wanted reads _ = Unit {0}

@@ -1,7 +1,7 @@
 -- The line that tells a status.
 use Rattle.std.specs.Prelude.{ℕ, List, [], ◌++◌, codes, decimal, ◌==◌, if◌then◌else◌}
-use Rattle.sel_forest.specs.Limits.{token, unknown_operator, arity, number_large, too_deep, too_many_nodes, too_many_trees}
-use Rattle.sel_grammar.specs.Limits.{unbuilt}
+use Rattle.sel_forest.specs.Limits as forest
+use Rattle.sel_grammar.specs.Limits as grammar
 use Rattle.sel_grammar.specs.declared.refusal.GrammarFault.{GrammarFault}
 use Rattle.sel_forest.specs.declared.refusal.ForestFault.{ForestFault}
 use Rattle.sel_cli.specs.declared.status.Status.{Status}
@@ -9,18 +9,32 @@ use Rattle.sel_cli.specs.declared.status.Status.TheVariants.{Done, Usage, ReadFa
 
 -- the name of a kind of fault of a grammar's text
 abbrev pub grammar_kind_name : ℕ → List ℕ
-grammar_kind_name kind = if kind == unbuilt then codes "Unbuilt" else codes "Unknown"
+grammar_kind_name kind =
+    if kind == grammar.token then codes "Token" else (
+    if kind == grammar.no_rules then codes "NoRules" else (
+    if kind == grammar.duplicate_term then codes "DuplicateTerm" else (
+    if kind == grammar.arity then codes "Arity" else (
+    if kind == grammar.term_on_left then codes "TermOnLeft" else (
+    if kind == grammar.no_rule then codes "NoRule" else (
+    if kind == grammar.cost_form then codes "CostForm" else (
+    if kind == grammar.cost_large then codes "CostLarge" else (
+    if kind == grammar.template_form then codes "TemplateForm" else (
+    if kind == grammar.kid_number then codes "KidNumber" else (
+    if kind == grammar.result_in_fragment then codes "ResultInFragment" else (
+    if kind == grammar.range_place then codes "RangePlace" else (
+    if kind == grammar.too_many then codes "TooMany" else (
+    if kind == grammar.zero_cycle then codes "ZeroCycle" else codes "Unknown")))))))))))))
 
 -- the name of a kind of fault of a forest's text
 abbrev pub forest_kind_name : ℕ → List ℕ
 forest_kind_name kind =
-    if kind == token then codes "Token" else (
-    if kind == unknown_operator then codes "UnknownOperator" else (
-    if kind == arity then codes "Arity" else (
-    if kind == number_large then codes "NumberLarge" else (
-    if kind == too_deep then codes "TooDeep" else (
-    if kind == too_many_nodes then codes "TooManyNodes" else (
-    if kind == too_many_trees then codes "TooManyTrees" else codes "Unknown"))))))
+    if kind == forest.token then codes "Token" else (
+    if kind == forest.unknown_operator then codes "UnknownOperator" else (
+    if kind == forest.arity then codes "Arity" else (
+    if kind == forest.number_large then codes "NumberLarge" else (
+    if kind == forest.too_deep then codes "TooDeep" else (
+    if kind == forest.too_many_nodes then codes "TooManyNodes" else (
+    if kind == forest.too_many_trees then codes "TooManyTrees" else codes "Unknown"))))))
 
 -- :LINE:COLUMN
 abbrev pub place_text : ℕ → ℕ → List ℕ

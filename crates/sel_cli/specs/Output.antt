@@ -1,5 +1,5 @@
--- What is written: an answer for each tree, in order.
-use Rattle.std.specs.Prelude.{◌≡◌, ℕ, ◌+◌, Bool, not, ◌==◌, Option, Some, None, is_some, List, [], ◌∷◌, ◌++◌, codes, decimal, if◌then◌else◌}
+-- What is written: an answer for each tree, in order, or a grammar or forest in print.
+use Rattle.std.specs.Prelude.{◌≡◌, ℕ, ◌+◌, Bool, true, not, ◌==◌, Option, Some, None, is_some, List, [], ◌∷◌, ◌++◌, codes, decimal, if◌then◌else◌}
 use Rattle.std.specs.Fmt.{signed_decimal}
 use Rattle.std.specs.List.{list_all, list_any}
 use Rattle.sel_grammar.specs.declared.grammar.Grammar.{Grammar}
@@ -11,6 +11,10 @@ use Rattle.sel_forest.specs.declared.forest.Forest.{Forest}
 use Rattle.sel_forest.specs.declared.forest.Tree.{Tree}
 use Rattle.sel_forest.specs.Postorder.{IsPostorderOf}
 use Rattle.sel_forest.specs.Covers.{IsAnswer}
+use Rattle.sel_forest.specs.Printed.{IsPrinted}
+use Rattle.sel_grammar_text.specs.PrintedGrammar.{printed}
+use Rattle.sel_cli.specs.Words.{Job, PrintGrammar, OverForest}
+use Rattle.sel_cli.specs.declared.words.Mode.TheVariants as mode
 
 -- a tree's best cover, or none where nothing derives it
 abbrev pub IsTreesAnswer : Grammar → Tree → Option Cover → Type 0
@@ -65,6 +69,9 @@ pub record AreAnswered (g : Grammar) (trees : List Tree) (covered : Bool) (bytes
   pub written : bytes ≡ answers_text (has_second_costs g) 1 answers
   pub all_covered : list_all is_some answers ≡ covered
 
--- The defined output of a forest, and whether every tree is covered.
-abbrev pub IsOutput : Grammar → Forest → Bool → List ℕ → Type 0
-IsOutput g forest covered bytes = AreAnswered g forest.trees covered bytes
+-- The defined output of a job over a grammar and, for most, a forest, and whether every tree is covered.
+abbrev pub IsOutput : Job → Grammar → Option Forest → Bool → List ℕ → Type 0
+IsOutput PrintGrammar g None covered bytes = (bytes ≡ printed g) × (covered ≡ true)
+IsOutput (OverForest mode.Cover name) g (Some forest) covered bytes = AreAnswered g forest.trees covered bytes
+IsOutput (OverForest mode.Print name) g (Some forest) covered bytes = IsPrinted g forest bytes × (covered ≡ true)
+IsOutput _ _ _ _ _ = ⊥

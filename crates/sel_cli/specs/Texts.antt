@@ -1,12 +1,13 @@
 -- The texts that the words name, and what is made of them. `Is told text` says which texts may stand behind what a shelf tells of a name.
-use Rattle.std.specs.Prelude.{◌≡◌, ℕ, ◌<◌, ◌≤◌, Bool, List, length, Option, Some, IfSome, ◌⊎◌}
+use Rattle.std.specs.Prelude.{◌≡◌, ℕ, ◌<◌, ◌≤◌, Bool, List, length, Option, Some, None, IfSome, ◌⊎◌}
 use Rattle.sel_grammar.specs.declared.grammar.Grammar.{Grammar}
 use Rattle.sel_grammar.specs.declared.refusal.GrammarFault.{GrammarFault}
-use Rattle.sel_grammar.specs.PlainForm.{SpellsGrammar, IsGrammarFault}
+use Rattle.sel_grammar_text.specs.GrammarText.{SpellsGrammar, IsGrammarFault}
+use Rattle.sel_normal.specs.NormalFaults.{IsAccepted, IsNormalFault}
 use Rattle.sel_forest.specs.declared.forest.Forest.{Forest}
 use Rattle.sel_forest.specs.declared.refusal.ForestFault.{ForestFault}
 use Rattle.sel_forest.specs.ForestText.{SpellsForest, IsForestFault}
-use Rattle.sel_cli.specs.Words.{TextNames}
+use Rattle.sel_cli.specs.Words.{Task, forest_name}
 use Rattle.sel_cli.specs.Output.{IsOutput}
 
 -- the greatest length of a grammar's text, in bytes
@@ -27,60 +28,70 @@ MayBe told text = IfSome told (λ bytes. text ≡ bytes)
 
 -- what the words ask for, and what the shelf tells of each name
 pub record Request : Type 0 where
-  pub wanted : Option TextNames
+  pub wanted : Option Task
   pub held : List ℕ → Option (List ℕ)
 
--- the words name a grammar, whose text is this
-pub record HasGrammarText (Is : Option (List ℕ) → List ℕ → Type 0) (request : Request) (names : TextNames) (text : List ℕ) : Type 0 where
-  pub asked_for : request.wanted ≡ Some names
-  pub is_text : Is (request.held names.grammar) text
+-- the words ask for this task, and its grammar's text is this
+pub record HasGrammarText (Is : Option (List ℕ) → List ℕ → Type 0) (request : Request) (task : Task) (text : List ℕ) : Type 0 where
+  pub asked_for : request.wanted ≡ Some task
+  pub is_text : Is (request.held task.grammar) text
 
--- the grammar's text spells this grammar
-pub record AcceptsGrammar (Is : Option (List ℕ) → List ℕ → Type 0) (request : Request) (names : TextNames) (grammar : Grammar) : Type 0 where
+-- the grammar's text spells this grammar, and nothing is wrong with its normal form
+pub record AcceptsGrammar (Is : Option (List ℕ) → List ℕ → Type 0) (request : Request) (task : Task) (grammar : Grammar) : Type 0 where
   pub text : List ℕ
-  pub has : HasGrammarText Is request names text
+  pub has : HasGrammarText Is request task text
   pub within : length text ≤ grammar_limit
   pub spelled : SpellsGrammar text grammar
+  pub normal : IsAccepted grammar
 
--- the grammar is accepted, and the forest's text is this
-pub record HasForestText (Is : Option (List ℕ) → List ℕ → Type 0) (request : Request) (names : TextNames) (grammar : Grammar) (text : List ℕ) : Type 0 where
-  pub accepts_grammar : AcceptsGrammar Is request names grammar
-  pub is_text : Is (request.held names.forest) text
+-- the grammar is accepted, and the forest's text, of this name, is this
+pub record HasForestText (Is : Option (List ℕ) → List ℕ → Type 0) (request : Request) (task : Task) (grammar : Grammar) (name text : List ℕ) : Type 0 where
+  pub accepts_grammar : AcceptsGrammar Is request task grammar
+  pub is_named : forest_name task.job ≡ Some name
+  pub is_text : Is (request.held name) text
 
 -- and spells this forest
-pub record AcceptsForest (Is : Option (List ℕ) → List ℕ → Type 0) (request : Request) (grammar : Grammar) (forest : Forest) : Type 0 where
-  pub names : TextNames
+pub record AcceptsForest (Is : Option (List ℕ) → List ℕ → Type 0) (request : Request) (task : Task) (grammar : Grammar) (forest : Forest) : Type 0 where
+  pub name : List ℕ
   pub text : List ℕ
-  pub has : HasForestText Is request names grammar text
+  pub has : HasForestText Is request task grammar name text
   pub within : length text ≤ forest_limit
   pub spelled : SpellsForest grammar text forest
+
+-- all texts of the task are accepted: the grammar's, and the forest's where the task has one
+abbrev pub Accepts : (Option (List ℕ) → List ℕ → Type 0) → Request → Task → Grammar → Option Forest → Type 0
+Accepts Is request task grammar None = AcceptsGrammar Is request task grammar × (forest_name task.job ≡ None)
+Accepts Is request task grammar (Some forest) = AcceptsForest Is request task grammar forest
 
 -- the text of this name is longer than its limit: the grammar's, or the forest's behind an accepted grammar
 abbrev pub IsTooLong : (Option (List ℕ) → List ℕ → Type 0) → Request → List ℕ → ℕ → Type 0
 IsTooLong Is request name limit =
-    ((names : TextNames) × (text : List ℕ) × HasGrammarText Is request names text × (name ≡ names.grammar) × (limit ≡ grammar_limit) × (limit < length text))
-    ⊎ ((names : TextNames) × (grammar : Grammar) × (text : List ℕ) × HasForestText Is request names grammar text × (name ≡ names.forest) × (limit ≡ forest_limit) × (limit < length text))
+    ((task : Task) × (text : List ℕ) × HasGrammarText Is request task text × (name ≡ task.grammar) × (limit ≡ grammar_limit) × (limit < length text))
+    ⊎ ((task : Task) × (grammar : Grammar) × (text : List ℕ) × HasForestText Is request task grammar name text × (limit ≡ forest_limit) × (limit < length text))
 
--- the grammar's text, of this name, has this first fault
+-- the text has this first fault, or spells a grammar whose normal form has it
+abbrev pub IsRefusedGrammar : List ℕ → GrammarFault → Type 0
+IsRefusedGrammar text fault = IsGrammarFault text fault ⊎ ((grammar : Grammar) × SpellsGrammar text grammar × IsNormalFault grammar fault)
+
+-- the grammar's text, of this name, is refused for this fault
 pub record RefusesGrammar (Is : Option (List ℕ) → List ℕ → Type 0) (request : Request) (name : List ℕ) (fault : GrammarFault) : Type 0 where
-  pub names : TextNames
+  pub task : Task
   pub text : List ℕ
-  pub has : HasGrammarText Is request names text
-  pub is_named : name ≡ names.grammar
+  pub has : HasGrammarText Is request task text
+  pub is_named : name ≡ task.grammar
   pub within : length text ≤ grammar_limit
-  pub refused : IsGrammarFault text fault
+  pub refused : IsRefusedGrammar text fault
 
 -- the forest's text, of this name, has this first fault behind an accepted grammar
 pub record RefusesForest (Is : Option (List ℕ) → List ℕ → Type 0) (request : Request) (name : List ℕ) (fault : ForestFault) : Type 0 where
-  pub names : TextNames
+  pub task : Task
   pub grammar : Grammar
   pub text : List ℕ
-  pub has : HasForestText Is request names grammar text
-  pub is_named : name ≡ names.forest
+  pub has : HasForestText Is request task grammar name text
   pub within : length text ≤ forest_limit
   pub refused : IsForestFault grammar text fault
 
--- the bytes are the whole output of an accepted forest
+-- the bytes are the whole output of a task whose texts are accepted
 abbrev pub IsWhole : (Option (List ℕ) → List ℕ → Type 0) → Request → Bool → List ℕ → Type 0
 IsWhole Is request covered bytes =
-    (grammar : Grammar) × (forest : Forest) × AcceptsForest Is request grammar forest × IsOutput grammar forest covered bytes
+    (task : Task) × (grammar : Grammar) × (forest : Option Forest) × Accepts Is request task grammar forest × IsOutput task.job grammar forest covered bytes

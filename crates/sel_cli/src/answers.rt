@@ -4,8 +4,9 @@ ghost use Rattle.std.specs.List.{list_any};
 ghost use Rattle.sel_grammar.specs.Limits.{IsWithinLimits};
 ghost use Rattle.sel_grammar.specs.Chains.{HasNoFreeCycle};
 ghost use Rattle.sel_forest.specs.Valid.{IsValidTree, IsValidForest};
-ghost use Rattle.sel_cli.specs.Output.{IsOutput, IsWritten, answer_text, cost_text, spaced, has_second_costs};
+ghost use Rattle.sel_cli.specs.Output.{AreAnswered, IsWritten, answer_text, cost_text, spaced, has_second_costs};
 
+use crate::output::Output;
 use crate::text::{put, put_number};
 use itoa::Buffer;
 use sel_base::{Gate, NoMemory, Pair};
@@ -76,13 +77,6 @@ fn has_second_costs(grammar: &Grammar) -> bool
         .any(|rule| rule.cost.second != 0)
 }
 
-/// The text of all answers, and whether every tree is covered.
-#[derive(Drop)]
-pub struct Answers {
-    pub text: Vec<u8>,
-    pub covered: bool,
-}
-
 // Writes the answer of one tree. Whether the tree is covered.
 fn write_answer(
     alloc: Global,
@@ -108,11 +102,11 @@ pub fn answer_forest<G: Gate>(
     grammar: &Grammar,
     forest: &Forest,
     gate: &G,
-) -> Result<Answers, NoMemory>
+) -> Result<Output, NoMemory>
     requires limits { IsWithinLimits grammar.now }
     requires free { HasNoFreeCycle grammar.now }
     requires valid { IsValidForest grammar.now forest.now }
-    ensures { IfOk result (λ answers. IsOutput grammar.now forest.now answers.covered answers.text.items) }
+    ensures { IfOk result (λ output. AreAnswered grammar.now forest.now.trees output.covered output.text.items) }
 {
     let second = has_second_costs(grammar);
     let mut text = Vec::new(alloc);
@@ -122,5 +116,5 @@ pub fn answer_forest<G: Gate>(
         covered &= write_answer(alloc, grammar, second, index as u64 + 1, tree, &mut text)?;
         gate.leave(0, index as u32);
     }
-    Ok(Answers { text, covered })
+    Ok(Output { text, covered })
 }

@@ -14,8 +14,34 @@ use std::alloc::Global;
 fn grammar_kind_name(kind: u8) -> &'static [u8]
     ensures { result.now ≡ grammar_kind_name kind }
 {
-    if kind == grammar_limits::UNBUILT {
-        b"Unbuilt"
+    if kind == grammar_limits::TOKEN {
+        b"Token"
+    } else if kind == grammar_limits::NO_RULES {
+        b"NoRules"
+    } else if kind == grammar_limits::DUPLICATE_TERM {
+        b"DuplicateTerm"
+    } else if kind == grammar_limits::ARITY {
+        b"Arity"
+    } else if kind == grammar_limits::TERM_ON_LEFT {
+        b"TermOnLeft"
+    } else if kind == grammar_limits::NO_RULE {
+        b"NoRule"
+    } else if kind == grammar_limits::COST_FORM {
+        b"CostForm"
+    } else if kind == grammar_limits::COST_LARGE {
+        b"CostLarge"
+    } else if kind == grammar_limits::TEMPLATE_FORM {
+        b"TemplateForm"
+    } else if kind == grammar_limits::KID_NUMBER {
+        b"KidNumber"
+    } else if kind == grammar_limits::RESULT_IN_FRAGMENT {
+        b"ResultInFragment"
+    } else if kind == grammar_limits::RANGE_PLACE {
+        b"RangePlace"
+    } else if kind == grammar_limits::TOO_MANY {
+        b"TooMany"
+    } else if kind == grammar_limits::ZERO_CYCLE {
+        b"ZeroCycle"
     } else {
         b"Unknown"
     }

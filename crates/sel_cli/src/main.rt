@@ -1,9 +1,11 @@
-//! Reads a grammar and a forest by name, and writes the cheapest cover of each tree.
+//! Reads a grammar and a forest by name, and writes the cheapest cover of each tree, or the grammar or
+//! the forest in print.
 #![tactic(auto)]
 
 mod answers;
 mod command_line;
 mod lines;
+mod output;
 mod report;
 mod run;
 mod settings;
@@ -47,5 +49,7 @@ fn main(rt: HostRuntime) -> ExitCode {
 
 #[cfg(test)]
 mod tests;
+#[cfg(test)]
+mod tests_grammars;
 #[cfg(test)]
 mod tests_words;

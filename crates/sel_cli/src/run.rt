@@ -1,5 +1,5 @@
 // The top call.
-ghost use Rattle.std.specs.Prelude.{◌≡◌, ◌≢◌, ◌≤◌, ◌⊎◌, [], List, ℕ, Some, map, string_bytes, false};
+ghost use Rattle.std.specs.Prelude.{◌≡◌, ◌≢◌, ◌≤◌, ◌⊎◌, [], List, ℕ, Option, None, Some, map, string_bytes, false};
 ghost use Rattle.std.specs.Io.KnownBytes.{append_known};
 ghost use Rattle.sel_base.specs.Causes.{Rose};
 ghost use Rattle.sel_grammar.specs.Limits.{IsWithinLimits};
@@ -8,19 +8,19 @@ ghost use Rattle.sel_grammar.specs.declared.grammar.Grammar.{Grammar as AnyGramm
 ghost use Rattle.sel_forest.specs.Valid.{IsValidForest};
 ghost use Rattle.sel_forest.specs.declared.forest.Forest.{Forest as AnyForest};
 ghost use Rattle.sel_cli.specs.declared.status.Status.{Status as AnyStatus};
-ghost use Rattle.sel_cli.specs.Words.{wanted_names};
-ghost use Rattle.sel_cli.specs.Names.{names_of};
-ghost use Rattle.sel_cli.specs.Texts.{IsTold, AcceptsForest};
-ghost use Rattle.sel_cli.specs.Ends.{EndsFor, Ending, Decides, IsExcused, IsAnswered, IsFrontOf, ReadsFor};
-ghost use Rattle.sel_cli.specs.Parts.{AnswersFor};
+ghost use Rattle.sel_cli.specs.Words.{Task as AnyTask, PrintGrammar, OverForest, command};
+ghost use Rattle.sel_cli.specs.Names.{task_for};
+ghost use Rattle.sel_cli.specs.Texts.{IsTold, MayBe, AcceptsGrammar, Accepts};
+ghost use Rattle.sel_cli.specs.Ends.{EndsFor, WritesJobFor, Ending, Decides, IsExcused, IsAnswered, IsFrontOf, ReadsFor};
+ghost use Rattle.sel_cli.specs.Parts.{PutsFor};
 ghost use Rattle.sel_cli.specs.Lines.{status_line};
 
-use crate::answers::answer_forest;
 use crate::lines::tell;
+use crate::output::{Output, forest_output, grammar_output};
 use crate::report::Report;
 use crate::status::Status;
 use crate::texts::{accept_forest, accept_grammar};
-use crate::words::{Command, Mode, read_words};
+use crate::words::{Command, Job, Mode, read_words};
 use sel_base::{Gate, NoMemory, Shelf, Sink, SinkFault, write_all_of};
 use sel_forest::Forest;
 use sel_grammar::Grammar;
@@ -35,27 +35,16 @@ struct Ended<'a> {
     name: &'a str,
 }
 
-fn answer<K: Sink, G: Gate>(
-    alloc: Global,
-    grammar: &Grammar,
-    forest: &Forest,
-    out: &mut K,
-    gate: &G,
-) -> Status
-    requires limits { IsWithinLimits grammar.now }
-    requires free { HasNoFreeCycle grammar.now }
-    requires valid { IsValidForest grammar.now forest.now }
-    ensures ends { (bytes : List ℕ) × AnswersFor grammar.now forest.now (K.faults out.old) (K.faults out.new) bytes result
+// Writes a job's output.
+fn write_output<K: Sink>(out: &mut K, output: &Output) -> Status
+    ensures ends { (bytes : List ℕ) × PutsFor output.now.covered output.now.text.items (K.faults out.old) (K.faults out.new) bytes result
         × (K.taken out.new ≡ append_known (K.taken out.old) bytes) }
     ensures later { K.faults out.old ≤ K.faults out.new }
     ensures quiet { (result ≢ Status.WriteFault) → K.faults out.new ≡ K.faults out.old }
 {
-    let Ok(answers) = answer_forest(alloc, grammar, forest, gate) else {
-        return Status::NoMemory;
-    };
-    match write_all_of(out, &answers.text) {
+    match write_all_of(out, &output.text) {
         Ok(()) => {
-            if answers.covered {
+            if output.covered {
                 Status::Done
             } else {
                 Status::Uncovered
@@ -68,15 +57,58 @@ fn answer<K: Sink, G: Gate>(
     }
 }
 
-fn cover<'a, S: Shelf, K: Sink, G: Gate>(
+// Prints the accepted grammar.
+fn print<K: Sink>(alloc: Global, grammar: &Grammar, out: &mut K) -> Status
+    ensures ends { (bytes : List ℕ) × WritesJobFor PrintGrammar grammar.now None (K.faults out.old) (K.faults out.new) bytes result
+        × (K.taken out.new ≡ append_known (K.taken out.old) bytes) }
+    ensures later { K.faults out.old ≤ K.faults out.new }
+    ensures quiet { (result ≢ Status.WriteFault) → K.faults out.new ≡ K.faults out.old }
+{
+    match grammar_output(alloc, grammar) {
+        Ok(output) => write_output(out, &output),
+        Err(NoMemory) => Status::NoMemory,
+    }
+}
+
+// Answers or prints the accepted forest.
+fn answer<K: Sink, G: Gate>(
+    alloc: Global,
+    mode: Mode,
+    grammar: &Grammar,
+    forest: &Forest,
+    out: &mut K,
+    gate: &G,
+) -> Status
+    requires limits { IsWithinLimits grammar.now }
+    requires free { HasNoFreeCycle grammar.now }
+    requires valid { IsValidForest grammar.now forest.now }
+    ensures ends { (name : List ℕ) → (bytes : List ℕ) × WritesJobFor (OverForest mode name) grammar.now (Some forest.now) (K.faults out.old) (K.faults out.new) bytes result
+        × (K.taken out.new ≡ append_known (K.taken out.old) bytes) }
+    ensures later { K.faults out.old ≤ K.faults out.new }
+    ensures quiet { (result ≢ Status.WriteFault) → K.faults out.new ≡ K.faults out.old }
+{
+    match forest_output(alloc, mode, grammar, forest, gate) {
+        Ok(output) => write_output(out, &output),
+        Err(NoMemory) => Status::NoMemory,
+    }
+}
+
+// Reads the forest of this name under the accepted grammar, and answers or prints it.
+fn serve_forest<'a, S: Shelf, K: Sink, G: Gate>(
     alloc: Global,
     command: Command<'a>,
+    mode: Mode,
+    name: &'a str,
+    grammar: &Grammar,
     shelf: &mut S,
     out: &mut K,
     gate: &G,
 ) -> Ended<'a>
+    requires grammar { AcceptsGrammar MayBe (record { wanted = Some (task_for command); held = S.held shelf.old }) (task_for command) grammar.now }
+    requires limits { IsWithinLimits grammar.now }
+    requires job { (task_for command).job ≡ OverForest mode name.now }
     ensures ends { (bytes : List ℕ)
-        × EndsFor (record { wanted = Some (names_of command.entry); held = S.held shelf.old })
+        × EndsFor (record { wanted = Some (task_for command.entry); held = S.held shelf.old })
         (record { before = S.faults shelf.old; after = S.faults shelf.new; last = S.last shelf.new })
         (K.faults out.old) (K.faults out.new) result.name.now bytes result.status
         × (K.taken out.new ≡ append_known (K.taken out.old) bytes) }
@@ -85,7 +117,36 @@ fn cover<'a, S: Shelf, K: Sink, G: Gate>(
     ensures out_later { K.faults out.old ≤ K.faults out.new }
     ensures quiet { (result.status ≢ Status.ReadFault) → S.faults shelf.new ≡ S.faults shelf.old }
     ensures out_quiet { (result.status ≢ Status.WriteFault) → K.faults out.new ≡ K.faults out.old }
-    ensures read { ReadsFor (Some (names_of command.entry)) (record { before = S.faults shelf.old; after = S.faults shelf.new; last = S.last shelf.new }) result.status }
+    ensures read { ReadsFor (Some (task_for command.entry)) (record { before = S.faults shelf.old; after = S.faults shelf.new; last = S.last shelf.new }) result.status }
+{
+    match accept_forest(alloc, shelf, command, name, grammar) {
+        Ok(forest) => Ended {
+            status: answer(alloc, mode, grammar, &forest, out, gate),
+            name,
+        },
+        Err(status) => Ended { status, name },
+    }
+}
+
+// Reads the grammar, and does the job with it.
+fn serve<'a, S: Shelf, K: Sink, G: Gate>(
+    alloc: Global,
+    command: Command<'a>,
+    shelf: &mut S,
+    out: &mut K,
+    gate: &G,
+) -> Ended<'a>
+    ensures ends { (bytes : List ℕ)
+        × EndsFor (record { wanted = Some (task_for command.entry); held = S.held shelf.old })
+        (record { before = S.faults shelf.old; after = S.faults shelf.new; last = S.last shelf.new })
+        (K.faults out.old) (K.faults out.new) result.name.now bytes result.status
+        × (K.taken out.new ≡ append_known (K.taken out.old) bytes) }
+    ensures unchanged { S.held shelf.new ≡ S.held shelf.old }
+    ensures later { S.faults shelf.old ≤ S.faults shelf.new }
+    ensures out_later { K.faults out.old ≤ K.faults out.new }
+    ensures quiet { (result.status ≢ Status.ReadFault) → S.faults shelf.new ≡ S.faults shelf.old }
+    ensures out_quiet { (result.status ≢ Status.WriteFault) → K.faults out.new ≡ K.faults out.old }
+    ensures read { ReadsFor (Some (task_for command.entry)) (record { before = S.faults shelf.old; after = S.faults shelf.new; last = S.last shelf.new }) result.status }
 {
     let grammar = match accept_grammar(alloc, shelf, command) {
         Ok(grammar) => grammar,
@@ -96,18 +157,14 @@ fn cover<'a, S: Shelf, K: Sink, G: Gate>(
             };
         }
     };
-    let forest = match accept_forest(alloc, shelf, command, &grammar) {
-        Ok(forest) => forest,
-        Err(status) => {
-            return Ended {
-                status,
-                name: command.forest,
-            };
+    match command.job {
+        Job::PrintGrammar => Ended {
+            status: print(alloc, &grammar, out),
+            name: command.grammar,
+        },
+        Job::OverForest(mode, name) => {
+            serve_forest(alloc, command, mode, name, &grammar, shelf, out, gate)
         }
-    };
-    Ended {
-        status: answer(alloc, &grammar, &forest, out, gate),
-        name: command.forest,
     }
 }
 
@@ -119,7 +176,7 @@ fn obey<'a, S: Shelf, K: Sink, G: Gate>(
     gate: &G,
 ) -> Ended<'a>
     ensures ends { (bytes : List ℕ)
-        × EndsFor (record { wanted = wanted_names (map string_bytes words.now); held = S.held shelf.old })
+        × EndsFor (record { wanted = command (map string_bytes words.now); held = S.held shelf.old })
         (record { before = S.faults shelf.old; after = S.faults shelf.new; last = S.last shelf.new })
         (K.faults out.old) (K.faults out.new) result.name.now bytes result.status
         × (K.taken out.new ≡ append_known (K.taken out.old) bytes) }
@@ -128,21 +185,20 @@ fn obey<'a, S: Shelf, K: Sink, G: Gate>(
     ensures out_later { K.faults out.old ≤ K.faults out.new }
     ensures quiet { (result.status ≢ Status.ReadFault) → S.faults shelf.new ≡ S.faults shelf.old }
     ensures out_quiet { (result.status ≢ Status.WriteFault) → K.faults out.new ≡ K.faults out.old }
-    ensures read { ReadsFor (wanted_names (map string_bytes words.now)) (record { before = S.faults shelf.old; after = S.faults shelf.new; last = S.last shelf.new }) result.status }
+    ensures read { ReadsFor (command (map string_bytes words.now)) (record { before = S.faults shelf.old; after = S.faults shelf.new; last = S.last shelf.new }) result.status }
 {
     let status = match read_words(alloc, words) {
-        Ok(Some(command)) => match command.mode {
-            Mode::Cover => return cover(alloc, command, shelf, out, gate),
-        },
+        Ok(Some(command)) => return serve(alloc, command, shelf, out, gate),
         Ok(None) => Status::Usage,
         Err(NoMemory) => Status::NoMemory,
     };
     Ended { status, name: "" }
 }
 
-/// Does what the words ask for (`cover GRAMMAR FOREST` and options in any place, without the program's
-/// name): reads the two texts from the shelf, writes the cheapest cover of each tree to `out`, and says
-/// how it ended. The status's line goes to `err`.
+/// Does what the words ask for (`cover GRAMMAR FOREST`, `print GRAMMAR` or `print GRAMMAR FOREST`, and
+/// options in any place, without the program's name): reads the texts from the shelf, writes the
+/// cheapest cover of each tree, or the grammar or the forest in print, to `out`, and says how it ended.
+/// The status's line goes to `err`.
 pub fn run<S: Shelf, K: Sink, E: Sink, G: Gate, Rt: Threads + Sync>(
     _rt: &Rt,
     alloc: Global,
@@ -153,23 +209,23 @@ pub fn run<S: Shelf, K: Sink, E: Sink, G: Gate, Rt: Threads + Sync>(
     gate: &G,
 ) -> (Status, Report)
     // Each status comes for its cause, with the bytes that it wrote and a front of its line.
-    ensures ends { Ending (record { wanted = wanted_names (map string_bytes words.now); held = S.held shelf.old })
+    ensures ends { Ending (record { wanted = command (map string_bytes words.now); held = S.held shelf.old })
         (record { before = S.faults shelf.old; after = S.faults shelf.new; last = S.last shelf.new })
         (K.faults out.old) (K.faults out.new) (K.taken out.old) (K.taken out.new) (E.taken err.old) (E.taken err.new) result.0 }
     // What the words and told texts decide comes, but for want of memory and faults of the outside.
-    ensures exactly { (status : AnyStatus) → Decides (record { wanted = wanted_names (map string_bytes words.now); held = S.held shelf.old }) status
+    ensures exactly { (status : AnyStatus) → Decides (record { wanted = command (map string_bytes words.now); held = S.held shelf.old }) status
         → (result.0 ≡ status) ⊎ IsExcused result.0 }
-    // Where the outside has no fault, accepted texts are answered to the end.
-    ensures complete { (grammar : AnyGrammar) (forest : AnyForest)
-        → AcceptsForest IsTold (record { wanted = wanted_names (map string_bytes words.now); held = S.held shelf.old }) grammar forest
+    // Where the outside has no fault, a task with accepted texts is done to the end.
+    ensures complete { (task : AnyTask) (grammar : AnyGrammar) (forest : Option AnyForest)
+        → Accepts IsTold (record { wanted = command (map string_bytes words.now); held = S.held shelf.old }) task grammar forest
         → ¬ Rose (S.faults shelf.old) (S.faults shelf.new) → ¬ Rose (K.faults out.old) (K.faults out.new)
-        → (result.0 ≡ Status.NoMemory) ⊎ IsAnswered grammar forest (K.taken out.old) (K.taken out.new) result.0 }
+        → (result.0 ≡ Status.NoMemory) ⊎ IsAnswered task.job grammar forest (K.taken out.old) (K.taken out.new) result.0 }
     // Nothing is reported yet.
     ensures report { result.1 ≡ record { evaluated = 0; plain_nodes = 0; row_full = false; used_up = false } }
     ensures unchanged { S.held shelf.new ≡ S.held shelf.old }
     ensures quiet { (result.0 ≢ Status.ReadFault) → S.faults shelf.new ≡ S.faults shelf.old }
     ensures out_quiet { (result.0 ≢ Status.WriteFault) → K.faults out.new ≡ K.faults out.old }
-    ensures read { ReadsFor (wanted_names (map string_bytes words.now)) (record { before = S.faults shelf.old; after = S.faults shelf.new; last = S.last shelf.new }) result.0 }
+    ensures read { ReadsFor (command (map string_bytes words.now)) (record { before = S.faults shelf.old; after = S.faults shelf.new; last = S.last shelf.new }) result.0 }
     ensures later { (S.faults shelf.old ≤ S.faults shelf.new) × (K.faults out.old ≤ K.faults out.new) × (E.faults err.old ≤ E.faults err.new) }
 {
     let ended = obey(alloc, words, shelf, out, gate);

@@ -11,22 +11,22 @@ use std::test::Fail;
 use std::thread::Threads;
 
 #[derive(Clone, Copy)]
-struct Case<'a> {
-    words: &'a [&'a str],
-    grammar: &'a str,
-    forest: &'a str,
-    reads: &'a [u64],
-    puts: &'a [u64],
-    piece: usize,
-    out: &'a str,
-    err: &'a str,
-    status: Status,
+pub struct Case<'a> {
+    pub words: &'a [&'a str],
+    pub grammar: &'a str,
+    pub forest: &'a str,
+    pub reads: &'a [u64],
+    pub puts: &'a [u64],
+    pub piece: usize,
+    pub out: &'a str,
+    pub err: &'a str,
+    pub status: Status,
 }
 
 const GRAMMAR: &str =
     "%term X=1 U=2 P=3\n%%\ns: U(a) \"\" 3\ns: P(a,b) \"\" 1\na: X \"\" 2\nb: X \"\" 1\na: U(b) \"\" 0\n";
 
-const PLAIN: Case<'static> = Case {
+pub const PLAIN: Case<'static> = Case {
     words: &["cover", "g", "f"],
     grammar: GRAMMAR,
     forest: "U(X)\n",
@@ -61,7 +61,11 @@ fn end_of(rt: &(impl Abort + Threads + Sync), alloc: Global, case: &Case<'_>) ->
     Ok(End { status, out, err })
 }
 
-fn ends(rt: &(impl Abort + Threads + Sync), alloc: Global, case: &Case<'_>) -> Result<(), Fail> {
+pub fn ends(
+    rt: &(impl Abort + Threads + Sync),
+    alloc: Global,
+    case: &Case<'_>,
+) -> Result<(), Fail> {
     let end = end_of(rt, alloc, case)?;
     assert_eq!(rt; end.status, case.status);
     assert_eq!(rt; end.out.bytes(), case.out.as_bytes());
@@ -107,15 +111,15 @@ fn accepted_texts_are_answered(rt: HostRuntime) -> Result<(), Fail> {
 fn refusals_and_faults_are_told(rt: HostRuntime) -> Result<(), Fail> {
     let alloc = rt.alloc();
     let cases = [
-        // A chain rule isn't of the plain form.
+        // No rule has the left name b.
         Case {
-            grammar: "%term X=1 U=2 P=3\n%%\ns: a \"\" 1\ns: P(a,b) \"\" 1\na: X \"\" 2\nb: X \"\" 1\n",
+            grammar: "%term X=1 U=2 P=3\n%%\ns: a \"\" 1\ns: P(a,b) \"\" 1\na: X \"\" 2\n",
             out: "",
-            err: "g:1:1: grammar fault 15 Unbuilt\n",
+            err: "g:4:8: grammar fault 6 NoRule\n",
             status: Status::BadGrammar(GrammarFault {
-                kind: 15,
-                line: 1,
-                column: 1,
+                kind: 6,
+                line: 4,
+                column: 8,
             }),
             ..PLAIN
         },
@@ -311,10 +315,13 @@ fn a_tree_that_is_too_deep_is_refused(rt: HostRuntime) -> Result<(), Fail> {
 #[test]
 fn a_text_over_its_limit_is_too_big(rt: HostRuntime) -> Result<(), Fail> {
     let alloc = rt.alloc();
-    let mut grammar = String::new(alloc);
-    for _ in 0..16_777_217 {
-        grammar.push_str("%")?;
+    // 2^24 bytes and one more.
+    let mut grammar = String::from_str(alloc, "%")?;
+    for _ in 0..24 {
+        let half = String::from_str(alloc, grammar.as_str())?;
+        grammar.push_str(half.as_str())?;
     }
+    grammar.push_str("%")?;
     let case = Case {
         grammar: grammar.as_str(),
         out: "",
@@ -409,6 +416,21 @@ fn a_read_that_fails_is_told_by_its_name(rt: HostRuntime) -> Result<(), Fail> {
             status: Status::ReadFault,
             ..PLAIN
         },
+        Case {
+            words: &["print", "g"],
+            reads: &[1],
+            out: "",
+            err: "cannot read g\n",
+            status: Status::ReadFault,
+            ..PLAIN
+        },
+        // A grammar in print reads no forest.
+        Case {
+            words: &["print", "g"],
+            reads: &[2],
+            out: "%start s\n%term X=1\n%term U=2\n%term P=3\n%%\ns: U(a) \"\" 3\ns: P(a,b) \"\" 1\na: X \"\" 2\nb: X \"\" 1\na: U(b) \"\" 0\n",
+            ..PLAIN
+        },
         // There is no third read.
         Case {
             reads: &[3],
@@ -447,6 +469,14 @@ fn words_that_are_no_command(rt: HostRuntime) -> Result<(), Fail> {
         },
         Case {
             words: &["covers", "g", "f"],
+            ..none
+        },
+        Case {
+            words: &["print"],
+            ..none
+        },
+        Case {
+            words: &["print", "g", "f", "f"],
             ..none
         },
         Case {

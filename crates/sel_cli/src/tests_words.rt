@@ -1,7 +1,7 @@
 // Lists of words, with what they ask for. A list is written as one text, with a space between two words.
 use crate::run::run;
 use crate::status::Status;
-use crate::words::{Command, read_words};
+use crate::words::{Command, Job, Mode, read_words};
 use sel_base::{MemoryShelf, MemorySink, OpenGate};
 use std::alloc::Global;
 use std::marker::Sync;
@@ -9,10 +9,12 @@ use std::process::Abort;
 use std::test::Fail;
 use std::thread::Threads;
 
-// A command, and the values of its options: workers, states, rows, seed, trees and size.
+// A command: what is done, the texts' names (no forest's where that is empty), and the values of its
+// options: workers, states, rows, seed, trees and size.
 #[derive(Clone, Copy)]
 struct Case<'a> {
     words: &'a str,
+    done: &'a str,
     grammar: &'a str,
     forest: &'a str,
     settings: [u64; 6],
@@ -20,6 +22,7 @@ struct Case<'a> {
 
 const PLAIN: Case<'static> = Case {
     words: "cover g f",
+    done: "cover",
     grammar: "g",
     forest: "f",
     settings: [4, 4_096, 65_536, 1, 1_000, 64],
@@ -40,9 +43,20 @@ fn is_same(name: &str, wanted: &str) -> bool {
     name == wanted
 }
 
+// What is done, in a word, and the forest's name.
+fn parts_of<'a>(job: Job<'a>) -> (&'a str, &'a str) {
+    match job {
+        Job::PrintGrammar => ("print", ""),
+        Job::OverForest(Mode::Print, forest) => ("print", forest),
+        Job::OverForest(Mode::Cover, forest) => ("cover", forest),
+    }
+}
+
 fn asks_for(rt: &impl Abort, command: &Command<'_>, case: &Case<'_>) {
+    let (done, forest) = parts_of(command.job);
+    assert!(rt; is_same(done, case.done));
     assert!(rt; is_same(command.grammar, case.grammar));
-    assert!(rt; is_same(command.forest, case.forest));
+    assert!(rt; is_same(forest, case.forest));
     let settings = command.settings;
     let wanted = case.settings;
     assert_eq!(rt; settings.workers, wanted[0]);
@@ -101,6 +115,19 @@ fn options_stand_in_any_place_and_plain_words_in_order(rt: HostRuntime) -> Resul
         Case {
             words: "--size 2 --trees=3 --seed 4 --rows=5 --states 6 --workers=7 cover g f",
             settings: [7, 6, 5, 4, 3, 2],
+            ..PLAIN
+        },
+        // A grammar or a forest in print.
+        Case {
+            words: "print g",
+            done: "print",
+            forest: "",
+            ..PLAIN
+        },
+        Case {
+            words: "print --rows=7 g f",
+            done: "print",
+            settings: [4, 4_096, 7, 1, 1_000, 64],
             ..PLAIN
         },
         // Twenty digits, most of them zeros.
@@ -201,11 +228,13 @@ fn words_that_are_no_command(rt: HostRuntime) -> Result<(), Fail> {
         "Cover g f",
         " g f",
         "select g f",
-        "print g",
-        "print g f",
         "summary g f",
         "make g",
+        // Too few or too many texts in print.
+        "print",
+        "print g f f",
         // A shipped grammar, behind `--` too.
+        "print @rv64i",
         "cover @mips f",
         "cover @rv64i f",
         "cover @ f",
@@ -274,7 +303,15 @@ fn status_of(
 #[test]
 fn a_command_runs_and_other_words_are_refused(rt: HostRuntime) -> Result<(), Fail> {
     let alloc = rt.alloc();
-    for text in &["cover g0 f", "cover --workers=4 g0 f", "cover g0 -- f"] {
+    let commands = [
+        "cover g0 f",
+        "cover --workers=4 g0 f",
+        "cover g0 -- f",
+        "print g0",
+        "print g0 f",
+        "print -- g0 f",
+    ];
+    for text in &commands {
         assert_eq!(&rt; status_of(&rt, alloc, text)?, Status::Done);
     }
     let refused = [
@@ -285,6 +322,10 @@ fn a_command_runs_and_other_words_are_refused(rt: HostRuntime) -> Result<(), Fai
         "cover g0 f --workers 1 --workers 1",
         "cover g0 f -x",
         "cover @mips f",
+        "print",
+        "print @mips",
+        "print g0 f f",
+        "print g0 f --rows",
     ];
     for text in &refused {
         assert_eq!(&rt; status_of(&rt, alloc, text)?, Status::Usage);

@@ -1,19 +1,23 @@
 // The two texts, read and accepted.
 ghost use Rattle.std.specs.Prelude.{◌≡◌, ◌≤◌, Some, length, IfOk, IfErr, IsErrOf, OnOk};
 ghost use Rattle.sel_grammar.specs.Limits.{IsWithinLimits};
-ghost use Rattle.sel_grammar.specs.Chains.{HasNoFreeCycle};
+ghost use Rattle.sel_grammar.specs.Lawful.{IsLawful};
+ghost use Rattle.sel_grammar_text.specs.GrammarText.{SpellsGrammar};
+ghost use Rattle.sel_normal.specs.NormalFaults.{IsAccepted};
 ghost use Rattle.sel_forest.specs.Valid.{IsValidForest};
-ghost use Rattle.sel_cli.specs.Names.{names_of};
-ghost use Rattle.sel_cli.specs.Texts.{MayBe, AcceptsGrammar, AcceptsForest};
+ghost use Rattle.sel_cli.specs.Names.{task_for};
+ghost use Rattle.sel_cli.specs.Texts.{MayBe, AcceptsGrammar, AcceptsForest, grammar_limit};
 ghost use Rattle.sel_cli.specs.Ends.{StopsFor, WasRead, ReadsFor};
-ghost use Rattle.sel_cli.specs.Words.{TextNames};
-ghost use Rattle.sel_cli.specs.Parts.{FetchesFor};
+ghost use Rattle.sel_cli.specs.Words.{Task, forest_name};
+ghost use Rattle.sel_cli.specs.Parts.{FetchesFor, JudgedFor};
 
 use crate::status::Status;
 use crate::words::Command;
 use sel_base::{Shelf, ShelfFault};
 use sel_forest::{Forest, ForestRefusal, read_forest};
-use sel_grammar::{Grammar, GrammarRefusal, read_grammar};
+use sel_grammar::{Grammar, GrammarRefusal};
+use sel_grammar_text::read_grammar;
+use sel_normal::Normal;
 use std::alloc::Global;
 
 /// The greatest length of a grammar's text, in bytes.
@@ -36,7 +40,7 @@ fn fetch<S: Shelf>(
     ensures later { S.faults shelf.old ≤ S.faults shelf.new }
     ensures quiet { (¬ IsErrOf result Status.ReadFault) → S.faults shelf.new ≡ S.faults shelf.old }
     ensures read { OnOk result (WasRead (record { before = S.faults shelf.old; after = S.faults shelf.new; last = S.last shelf.new }) name.now) }
-    ensures unread { IfErr result (λ status. (names : TextNames) → ReadsFor (Some names) (record { before = S.faults shelf.old; after = S.faults shelf.new; last = S.last shelf.new }) status) }
+    ensures unread { IfErr result (λ status. (task : Task) → ReadsFor (Some task) (record { before = S.faults shelf.old; after = S.faults shelf.new; last = S.last shelf.new }) status) }
 {
     match shelf.read(alloc, name, limit) {
         Ok(text) => Ok(text),
@@ -46,54 +50,70 @@ fn fetch<S: Shelf>(
     }
 }
 
-/// The grammar that the text of the first name spells.
+/// The grammar that the bytes spell, whose normal form nothing is wrong with.
+fn judged(alloc: Global, bytes: &[u8]) -> Result<Grammar, GrammarRefusal>
+    requires short { length bytes.now ≤ grammar_limit }
+    ensures spelled { IfOk result (λ grammar. SpellsGrammar bytes.now grammar) }
+    ensures lawful { IfOk result (λ grammar. IsLawful grammar) }
+    ensures normal { IfOk result (λ grammar. IsAccepted grammar) }
+    ensures refused { IfErr result (JudgedFor bytes.now) }
+{
+    let grammar = read_grammar(alloc, bytes)?;
+    match Normal::of(alloc, &grammar) {
+        Ok(_) => Ok(grammar),
+        Err(refusal) => Err(refusal),
+    }
+}
+
+/// The grammar that the text of its name spells.
 pub fn accept_grammar<S: Shelf>(
     alloc: Global,
     shelf: &mut S,
     command: Command<'_>,
 ) -> Result<Grammar, Status>
-    ensures accepted { IfOk result (AcceptsGrammar MayBe (record { wanted = Some (names_of command.entry); held = S.held shelf.old }) (names_of command.entry)) }
-    ensures limits { IfOk result (λ grammar. IsWithinLimits grammar) }
-    ensures free { IfOk result (λ grammar. HasNoFreeCycle grammar) }
-    ensures refused { IfErr result (StopsFor (record { wanted = Some (names_of command.entry); held = S.held shelf.old })
+    ensures accepted { IfOk result (AcceptsGrammar MayBe (record { wanted = Some (task_for command.entry); held = S.held shelf.old }) (task_for command.entry)) }
+    ensures lawful { IfOk result (λ grammar. IsLawful grammar) }
+    ensures refused { IfErr result (StopsFor (record { wanted = Some (task_for command.entry); held = S.held shelf.old })
         (record { before = S.faults shelf.old; after = S.faults shelf.new; last = S.last shelf.new }) command.entry.grammar.now) }
     ensures unchanged { S.held shelf.new ≡ S.held shelf.old }
     ensures later { S.faults shelf.old ≤ S.faults shelf.new }
     ensures quiet { (¬ IsErrOf result Status.ReadFault) → S.faults shelf.new ≡ S.faults shelf.old }
     ensures read { OnOk result (WasRead (record { before = S.faults shelf.old; after = S.faults shelf.new; last = S.last shelf.new }) command.entry.grammar.now) }
-    ensures unread { IfErr result (ReadsFor (Some (names_of command.entry)) (record { before = S.faults shelf.old; after = S.faults shelf.new; last = S.last shelf.new })) }
+    ensures unread { IfErr result (ReadsFor (Some (task_for command.entry)) (record { before = S.faults shelf.old; after = S.faults shelf.new; last = S.last shelf.new })) }
 {
     let text = match fetch(alloc, shelf, command.grammar, GRAMMAR_LIMIT) {
         Ok(text) => text,
         Err(status) => return Err(status),
     };
-    match read_grammar(alloc, &text) {
+    match judged(alloc, &text) {
         Ok(grammar) => Ok(grammar),
         Err(GrammarRefusal::Fault(fault)) => Err(Status::BadGrammar(fault)),
         Err(GrammarRefusal::NoMemory) => Err(Status::NoMemory),
     }
 }
 
-/// The forest that the text of the second name spells under the accepted grammar.
+/// The forest that the text of this name, which is the command's, spells under the accepted grammar.
 pub fn accept_forest<S: Shelf>(
     alloc: Global,
     shelf: &mut S,
     command: Command<'_>,
+    name: &str,
     grammar: &Grammar,
 ) -> Result<Forest, Status>
-    requires grammar { AcceptsGrammar MayBe (record { wanted = Some (names_of command); held = S.held shelf.old }) (names_of command) grammar.now }
+    requires grammar { AcceptsGrammar MayBe (record { wanted = Some (task_for command); held = S.held shelf.old }) (task_for command) grammar.now }
     requires limits { IsWithinLimits grammar.now }
-    ensures accepted { IfOk result (AcceptsForest MayBe (record { wanted = Some (names_of command.entry); held = S.held shelf.old }) grammar.now) }
+    requires named { forest_name (task_for command).job ≡ Some name.now }
+    ensures accepted { IfOk result (AcceptsForest MayBe (record { wanted = Some (task_for command.entry); held = S.held shelf.old }) (task_for command.entry) grammar.now) }
     ensures valid { IfOk result (λ forest. IsValidForest grammar.now forest) }
-    ensures refused { IfErr result (StopsFor (record { wanted = Some (names_of command.entry); held = S.held shelf.old })
-        (record { before = S.faults shelf.old; after = S.faults shelf.new; last = S.last shelf.new }) command.entry.forest.now) }
+    ensures refused { IfErr result (StopsFor (record { wanted = Some (task_for command.entry); held = S.held shelf.old })
+        (record { before = S.faults shelf.old; after = S.faults shelf.new; last = S.last shelf.new }) name.now) }
     ensures unchanged { S.held shelf.new ≡ S.held shelf.old }
     ensures later { S.faults shelf.old ≤ S.faults shelf.new }
     ensures quiet { (¬ IsErrOf result Status.ReadFault) → S.faults shelf.new ≡ S.faults shelf.old }
-    ensures read { OnOk result (WasRead (record { before = S.faults shelf.old; after = S.faults shelf.new; last = S.last shelf.new }) command.entry.forest.now) }
-    ensures unread { IfErr result (ReadsFor (Some (names_of command.entry)) (record { before = S.faults shelf.old; after = S.faults shelf.new; last = S.last shelf.new })) }
+    ensures read { OnOk result (WasRead (record { before = S.faults shelf.old; after = S.faults shelf.new; last = S.last shelf.new }) name.now) }
+    ensures unread { IfErr result (ReadsFor (Some (task_for command.entry)) (record { before = S.faults shelf.old; after = S.faults shelf.new; last = S.last shelf.new })) }
 {
-    let text = match fetch(alloc, shelf, command.forest, FOREST_LIMIT) {
+    let text = match fetch(alloc, shelf, name, FOREST_LIMIT) {
         Ok(text) => text,
         Err(status) => return Err(status),
     };

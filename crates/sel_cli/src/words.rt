@@ -1,7 +1,7 @@
 // What the words ask for.
 ghost use Rattle.std.specs.Prelude.{◌≡◌, map, option_map, option_and_then, string_bytes, IfOk};
-ghost use Rattle.sel_cli.specs.Words.{command, is_shipped, mode_of, task_of, asked_by};
-ghost use Rattle.sel_cli.specs.Names.{names_of, task_for};
+ghost use Rattle.sel_cli.specs.Words.{command, is_shipped, mode_of, job_of, task_of, asked_by};
+ghost use Rattle.sel_cli.specs.Names.{job_for, task_for};
 ghost use Rattle.sel_cli.specs.Found.{IsFound};
 ghost use Rattle.sel_cli.specs.Split.{Parts};
 
@@ -11,19 +11,27 @@ use clap::ArgMatches;
 use sel_base::NoMemory;
 use std::alloc::Global;
 
-/// What is to be done with the texts.
+/// What is done over a forest.
 #[derive(Clone, Copy)]
 pub enum Mode {
     /// The cheapest cover of each tree.
     Cover,
+    /// The forest itself.
+    Print,
 }
 
-/// What the words ask for: the mode, the names of the two texts, and what the options say.
+/// What is to be done. A forest's text has a name.
+#[derive(Clone, Copy)]
+pub enum Job<'a> {
+    PrintGrammar,
+    OverForest(Mode, &'a str),
+}
+
+/// What the words ask for: the job, the name of the grammar's text, and what the options say.
 #[derive(Clone, Copy)]
 pub struct Command<'a> {
-    pub mode: Mode,
+    pub job: Job<'a>,
     pub grammar: &'a str,
-    pub forest: &'a str,
     pub settings: Settings,
 }
 
@@ -32,6 +40,20 @@ fn mode_of(word: &str) -> Option<Mode>
 {
     match word {
         "cover" => Some(Mode::Cover),
+        "print" => Some(Mode::Print),
+        _ => None,
+    }
+}
+
+fn job_of<'a>(mode: Mode, words: &[&'a str]) -> Option<Job<'a>>
+    ensures { option_map job_for result ≡ job_of mode (map (λ word. word.now) words.now) }
+{
+    match words {
+        [] => match mode {
+            Mode::Cover => None,
+            Mode::Print => Some(Job::PrintGrammar),
+        },
+        [forest] => Some(Job::OverForest(mode, forest)),
         _ => None,
     }
 }
@@ -49,15 +71,14 @@ fn command_of<'a>(settings: Settings, plain: &[&'a str]) -> Option<Command<'a>>
     ensures { option_map task_for result ≡ task_of settings (map (λ word. word.now) plain.now) }
 {
     match plain {
-        [mode, grammar, forest] => {
-            let mode = mode_of(mode)?;
+        [mode, grammar, words @ ..] => {
+            let job = job_of(mode_of(mode)?, words)?;
             if is_shipped(grammar) {
                 return None;
             }
             Some(Command {
-                mode,
+                job,
                 grammar,
-                forest,
                 settings,
             })
         }
@@ -72,8 +93,8 @@ fn asked_by<'a>(found: &ArgMatches<'a>) -> Option<Command<'a>>
     command_of(settings, found.get_raw("plain")?)
 }
 
-/// What the words ask for, or None where they are no command: `MODE GRAMMAR FOREST`, and among them
-/// `--NAME VALUE` or `--NAME=VALUE`. Behind a word `--` no word is an option.
+/// What the words ask for, or None where they are no command: `cover GRAMMAR FOREST`, `print GRAMMAR`
+/// or `print GRAMMAR FOREST`, and among them `--NAME VALUE` or `--NAME=VALUE`. Behind a word `--` no word is an option.
 pub fn read_words<'a>(alloc: Global, words: &'a [String]) -> Result<Option<Command<'a>>, NoMemory>
     ensures { IfOk result (λ answer. option_map task_for answer ≡ command (map string_bytes words.now)) }
 {

@@ -9,7 +9,7 @@ use Rattle.sel_grammar.specs.PlainTrees.{PlainTree, Node0, Node1, Node2}
 use Rattle.sel_forest.specs.declared.forest.Tree.{Tree}
 use Rattle.sel_forest.specs.declared.forest.Forest.{Forest}
 use Rattle.sel_forest.specs.Postorder.{postorder}
-use Rattle.sel_forest.specs.Symbols.{IsName}
+pub use Rattle.sel_grammar.specs.Lawful.{HasNames}
 
 abbrev pub name_of : Option Operator → List ℕ
 name_of None = []
@@ -43,8 +43,3 @@ pub record IsPrinted (g : Grammar) (forest : Forest) (text : List ℕ) : Type 0 
   pub plain : List PlainTree
   pub trees_are : forest.trees ≡ map tree_of plain
   pub text_is : text ≡ forest_text g plain
-
--- each operator has a name, and no two have the same
-pub record HasNames (g : Grammar) : Type 0 where
-  pub named : (k : ℕ) (operator : Operator) → slice_get g.operators k ≡ Some operator → IsName operator.name
-  pub differ : (j k : ℕ) (a b : Operator) → slice_get g.operators j ≡ Some a → slice_get g.operators k ≡ Some b → a.name ≡ b.name → j ≡ k

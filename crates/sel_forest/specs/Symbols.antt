@@ -2,7 +2,7 @@
 use Rattle.std.specs.Prelude.{◌≡◌, ℕ, Bool, true, List, [], ◌∷◌, ◌==◌, ◌||◌}
 use Rattle.std.specs.List.{list_all}
 use Rattle.std.specs.Char.{is_ascii_digit}
-pub use Rattle.sel_grammar.specs.Names.{is_letter, is_name_byte}
+pub use Rattle.sel_grammar.specs.Names.{is_letter, is_name_byte, IsName}
 
 -- space, tab, CR, form feed
 abbrev pub is_blank : ℕ → Bool
@@ -19,8 +19,3 @@ is_symbol_byte b = is_symbol_start b || is_ascii_digit b
 abbrev pub IsSymbol : List ℕ → Type 0
 IsSymbol [] = ⊥
 IsSymbol (b ∷ bytes) = (is_symbol_start b ≡ true) × (list_all is_symbol_byte bytes ≡ true)
-
--- a letter or _, and then letters, digits and _
-abbrev pub IsName : List ℕ → Type 0
-IsName [] = ⊥
-IsName (b ∷ bytes) = (is_letter b ≡ true) × (list_all is_name_byte bytes ≡ true)

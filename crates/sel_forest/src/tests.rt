@@ -63,7 +63,7 @@ pub fn small_grammar(alloc: Global) -> Result<Grammar, NoMemory>
 fn judged(alloc: Global, grammar: &Grammar, text: &[u8]) -> Judgement
     requires { IsWithinLimits grammar.now }
 {
-    if text.len() > 4_000_000 {
+    if text.len() > 5_000_000 {
         return (255, 0, 0);
     }
     match read_forest(alloc, grammar, text) {

@@ -1,11 +1,12 @@
 -- What each grammar keeps that a text spells, whole.
-use Rattle.std.specs.Prelude.{◌≡◌, ℕ, ◌+◌, ◌<◌, ◌≤◌, Some, slice_get, length}
+use Rattle.std.specs.Prelude.{◌≡◌, ℕ, List, ◌+◌, ◌<◌, ◌≤◌, Some, slice_get, length}
 use Rattle.sel_base.specs.declared.range.Range.{Range}
 use Rattle.sel_grammar.specs.declared.grammar.Grammar.{Grammar}
 use Rattle.sel_grammar.specs.declared.grammar.Operator.{Operator}
 use Rattle.sel_grammar.specs.declared.grammar.Pattern.{Pattern, Leaf, Nullary, Unary', Binary', end_of-Pattern, more_of-Pattern}
 use Rattle.sel_grammar.specs.declared.grammar.Rule.{Rule}
 use Rattle.sel_grammar.specs.Limits.{IsWithinLimits, most_names}
+use Rattle.sel_grammar.specs.Names.{IsName}
 
 -- how many names a pattern has
 abbrev pub names_of : Pattern → ℕ
@@ -35,3 +36,8 @@ pub record IsRuleOf (g : Grammar) (rule : Rule) : Type 0 where
 pub record IsLawful (g : Grammar) : Type 0 where
   pub within : IsWithinLimits g
   pub rules : (k : ℕ) (rule : Rule) → slice_get g.rules k ≡ Some rule → IsRuleOf g rule
+
+-- each operator has a name, and no two have the same
+pub record HasNames (g : Grammar) : Type 0 where
+  pub named : (k : ℕ) (operator : Operator) → slice_get g.operators k ≡ Some operator → IsName operator.name
+  pub differ : (j k : ℕ) (a b : Operator) → slice_get g.operators j ≡ Some a → slice_get g.operators k ≡ Some b → a.name ≡ b.name → j ≡ k

@@ -1,12 +1,10 @@
 -- Laws of the definitions.
-use Rattle.std.specs.Prelude.{◌≡◌, ℕ, List, ◌++◌, ◌⊎◌}
+use Rattle.std.specs.Prelude.{◌≡◌, ℕ, List, ◌++◌}
 use Rattle.sel_grammar.specs.declared.grammar.Grammar.{Grammar}
 use Rattle.sel_grammar.specs.PlainTrees.{PlainTree}
 use Rattle.sel_grammar.specs.Derivations.{Derivation, Derives, list}
 use Rattle.sel_grammar.specs.Chains.{HasNoFreeCycle}
 use Rattle.sel_grammar.specs.Best.{IsBest}
-use Rattle.sel_grammar.specs.declared.refusal.GrammarFault.{GrammarFault}
-use Rattle.sel_grammar.specs.PlainForm.{SpellsGrammar, IsGrammarFault}
 
 -- two best derivations are one
 abbrev pub BestIsOne : Type 0
@@ -19,19 +17,3 @@ BestExists = (g : Grammar) (n : ℕ) (t : PlainTree) (e : Derivation) → HasNoF
 -- whatever follows it, the list of a derivation of a tree from a nonterminal tells the derivation: none is a front of another's
 abbrev pub ListsAreWords : Type 0
 ListsAreWords = (g : Grammar) (n : ℕ) (t : PlainTree) (d e : Derivation) (xs ys : List ℕ) → Derives g d n t → Derives g e n t → list d ++ xs ≡ list e ++ ys → (d ≡ e) × (xs ≡ ys)
-
--- A text spells at most one grammar.
-abbrev pub GrammarIsOne : Type 0
-GrammarIsOne = (bytes : List ℕ) (g h : Grammar) → SpellsGrammar bytes g → SpellsGrammar bytes h → g ≡ h
-
--- A text has at most one fault.
-abbrev pub GrammarFaultIsOne : Type 0
-GrammarFaultIsOne = (bytes : List ℕ) (e f : GrammarFault) → IsGrammarFault bytes e → IsGrammarFault bytes f → e ≡ f
-
--- No text both spells a grammar and has a fault.
-abbrev pub NotGrammarAndFault : Type 0
-NotGrammarAndFault = (bytes : List ℕ) (g : Grammar) (f : GrammarFault) → SpellsGrammar bytes g → IsGrammarFault bytes f → ⊥
-
--- Each text spells some grammar or has some fault.
-abbrev pub SomeGrammarOrFault : Type 0
-SomeGrammarOrFault = (bytes : List ℕ) → ((g : Grammar) × SpellsGrammar bytes g) ⊎ ((f : GrammarFault) × IsGrammarFault bytes f)

@@ -8,7 +8,4 @@ pub mod Lawful
 pub mod Laws
 pub mod Limits
 pub mod Names
-pub mod PlainForm
-pub mod PlainReading
-pub mod PlainText
 pub mod PlainTrees

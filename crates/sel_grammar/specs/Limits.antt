@@ -76,10 +76,6 @@ too_many = 13
 abbrev pub zero_cycle : ℕ
 zero_cycle = 14
 
--- the text has no form that this version reads
-abbrev pub unbuilt : ℕ
-unbuilt = 15
-
 -- an operator takes none, one or two kids, or it is open how many
 abbrev pub IsArity : Option ℕ → Type 0
 IsArity None = Unit {0}

@@ -5,13 +5,8 @@ mod grammar;
 pub mod laws;
 pub mod limits;
 pub mod names;
-mod plain_text;
 mod refusal;
 
 pub use grammar::{Attribute, Grammar, Operator, Part, Pattern, Rule, RuleCost, Template};
-pub use plain_text::{Digits, PlainEntry, PlainKids, PlainRule, PlainText, read_grammar};
 pub use refusal::{GrammarFault, GrammarRefusal};
 pub use sel_base::{Pair, Range};
-
-#[cfg(test)]
-mod tests;

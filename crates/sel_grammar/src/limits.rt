@@ -65,6 +65,3 @@ pub const TOO_MANY: u8 = 13;
 
 /// A cycle of chain rules costs nothing.
 pub const ZERO_CYCLE: u8 = 14;
-
-/// The text has no form that this version reads.
-pub const UNBUILT: u8 = 15;

@@ -1,0 +1,10 @@
+use Rattle.std.proofs.Common.{ap, None}
+use Rattle.sel_cli.specs.Names.{job_for}
+use Rattle.sel_cli.specs.Words.{forest_name}
+use Rattle.sel_cli.proofs.Endings.{job_ends}
+use Rattle.sel_cli.proofs.run.serve.Goals as goal
+
+pub returns-in-PrintGrammar-clause-ends : goal.returns-in-PrintGrammar-clause-ends
+returns-in-PrintGrammar-clause-ends g c =
+    let done = c.print.ensures.ends in
+    (done.0, job_ends _ _ _ _ _ _ _ _ _ None c.print.result (ap job_for c.in-PrintGrammar.is) (c.in-Ok.ensures.accepted, ap (λ job. forest_name (job_for job)) c.in-PrintGrammar.is) done.1, done.2)

@@ -1,0 +1,63 @@
+// What a job writes.
+ghost use Rattle.std.specs.Prelude.{◌≡◌, ℕ, List, Some, None, IfOk};
+ghost use Rattle.sel_grammar.specs.Limits.{IsWithinLimits};
+ghost use Rattle.sel_grammar.specs.Chains.{HasNoFreeCycle};
+ghost use Rattle.sel_forest.specs.Valid.{IsValidForest};
+ghost use Rattle.sel_cli.specs.Words.{PrintGrammar, OverForest};
+ghost use Rattle.sel_cli.specs.Output.{IsOutput};
+
+use crate::answers::answer_forest;
+use crate::words::Mode;
+use sel_base::{Gate, NoMemory};
+use sel_forest::{Forest, print_forest};
+use sel_grammar::Grammar;
+use sel_grammar_text::print_grammar;
+use std::alloc::Global;
+
+/// The bytes that are written, and whether every tree is covered.
+#[derive(Drop)]
+pub struct Output {
+    pub text: Vec<u8>,
+    pub covered: bool,
+}
+
+/// The grammar in print.
+pub fn grammar_output(alloc: Global, grammar: &Grammar) -> Result<Output, NoMemory>
+    ensures { IfOk result (λ output. IsOutput PrintGrammar grammar.now None output.covered output.text.items) }
+{
+    let text = print_grammar(alloc, grammar)?;
+    Ok(Output {
+        text: text.into_vec(),
+        covered: true,
+    })
+}
+
+fn printed_forest(alloc: Global, grammar: &Grammar, forest: &Forest) -> Result<Output, NoMemory>
+    requires valid { IsValidForest grammar.now forest.now }
+    ensures { (name : List ℕ) → IfOk result (λ output. IsOutput (OverForest Mode.Print name) grammar.now (Some forest.now) output.covered output.text.items) }
+{
+    let text = print_forest(alloc, grammar, forest)?;
+    Ok(Output {
+        text: text.into_vec(),
+        covered: true,
+    })
+}
+
+/// What is written over a forest: the answers of its trees, or the forest in print.
+pub fn forest_output<G: Gate>(
+    alloc: Global,
+    mode: Mode,
+    grammar: &Grammar,
+    forest: &Forest,
+    gate: &G,
+) -> Result<Output, NoMemory>
+    requires limits { IsWithinLimits grammar.now }
+    requires free { HasNoFreeCycle grammar.now }
+    requires valid { IsValidForest grammar.now forest.now }
+    ensures { (name : List ℕ) → IfOk result (λ output. IsOutput (OverForest mode name) grammar.now (Some forest.now) output.covered output.text.items) }
+{
+    match mode {
+        Mode::Cover => answer_forest(alloc, grammar, forest, gate),
+        Mode::Print => printed_forest(alloc, grammar, forest),
+    }
+}

@@ -1,0 +1,5 @@
+use Rattle.sel_grammar_text.proofs.Lawfulness.{spelled_lawful}
+use Rattle.sel_grammar_text.proofs.read.read_grammar.Goals as goal
+
+pub returns-in-Ok-clause-lawful : goal.returns-in-Ok-clause-lawful
+returns-in-Ok-clause-lawful c = spelled_lawful c.args.bytes.now c.in-Ok.grammar c.in-Ok.ensures.grammar

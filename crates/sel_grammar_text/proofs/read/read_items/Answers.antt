@@ -1,0 +1,27 @@
+-- The loop over a text's items.
+use Rattle.std.proofs.Common.{◌-◌, [], length, refl}
+use Rattle.sel_grammar_text.proofs.ReadSteps.{reading_start, reading_next, behind_is, next_place, left_within, place_fits}
+use Rattle.sel_grammar_text.proofs.read.read_items.Goals as goal
+
+pub items-init : goal.items-init
+items-init c =
+    reading_start c.args.bytes.now c.new-tables.result (record { state = _; left = c.args.bytes; place = record { line = 1; column = 1 } }) (c.new-tables.ensures c.args.bytes.now) refl refl refl
+
+pub next_extent-requires-clause-within : goal.next_extent-requires-clause-within
+next_extent-requires-clause-within c = left_within c.args.bytes.now c.items.from.left.now c.items.invariant.n c.items.invariant.stands.left_is
+
+pub behind_item-from-requires : goal.behind_item-from-requires
+behind_item-from-requires c =
+    let r = c.items.invariant in
+    let fits = place_fits c.args.bytes.now c.items.from.left.now r.n c.items.from.place c.requires.short r.stands.left_is r.place in
+    record { within = c.in-Ok.ensures.within; line_fits = fits.0; column_fits = fits.1 }
+
+pub items-preserved : goal.items-preserved
+items-preserved c =
+    let r = c.items.invariant in
+    let bytes = c.args.bytes.now in
+    let left = c.items.from.left.now in
+    let e = c.in-Ok.extent in
+    reading_next bytes c.take_item.new.tables e c.behind_item-from.result c.in_ok-take_item.ensures.taken c.in-Ok.ensures.border c.in_default.not-Ended c.behind_item-from.ensures.state c.behind_item-from.ensures.left
+    (next_place bytes left e.behind.now r.n 0 c.items.from.place c.behind_item-from.result.place r.stands.left_is
+    (behind_is bytes left r.n c.take_item.new.tables e r.stands.left_is c.in_ok-take_item.ensures.taken c.in-Ok.ensures.within) r.place c.behind_item-from.ensures.place)

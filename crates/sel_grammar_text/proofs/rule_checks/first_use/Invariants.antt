@@ -1,0 +1,14 @@
+use Rattle.std.proofs.Common.{◌≡◌, ◌+◌, ◌≤◌, ◌<◌, ◌∷◌, ◌++◌, ℕ, List, length, map, take, drop}
+use Rattle.sel_grammar_text.specs.Checks as checks
+use Rattle.sel_grammar_text.specs.Items as items
+use Rattle.sel_grammar_text.specs.Meaning.{operators_of}
+use Rattle.sel_grammar_text.specs.Names as spec
+use Rattle.sel_grammar_text.specs.Tables.{operator_names}
+use Rattle.sel_grammar_text.specs.Words.{view_named, view_word, view_rule}
+use Rattle.sel_grammar_text.proofs.rule_checks.first_use.Given as goal
+
+abbrev pub invariant-names : goal.invariant-names
+invariant-names l = spec.first_use (map view_named l.rest) l.name ≡ spec.first_use (map view_named l.pattern) l.name
+
+abbrev pub decreases-names : goal.decreases-names
+decreases-names l = length l.rest

@@ -1,0 +1,31 @@
+use Rattle.std.proofs.Common.{◌≡◌, ◌∙◌, ap, sym, refl, rules, length, cond, true, false, None, Some, not, ◌||◌, map, ◌∷◌, ◌++◌, [], take, drop, ◌+◌, arith}
+use Rattle.std.specs.Prelude.{nat_lt, bytes_eq}
+use Rattle.sel_grammar.specs.Limits.{most_kids, most_nonterminals}
+use Rattle.sel_grammar_text.specs.Checks as checks
+use Rattle.sel_grammar_text.specs.Items as items
+use Rattle.sel_grammar_text.specs.Names as spec
+use Rattle.sel_grammar_text.specs.Meaning.{operators_of}
+use Rattle.sel_grammar_text.specs.Tables.{operator_names, arity_in, or_count}
+use Rattle.sel_grammar_text.specs.Words.{view_named, view_rule, view_word}
+use Rattle.sel_grammar_text.proofs.RuleChecks.{wrong_unknown, wrong_known, among_words, leaves-append}
+use Rattle.sel_grammar_text.proofs.rule_checks.has_wrong_kids.Goals as goal
+
+pub returns-in_default : goal.returns-in_default
+returns-in_default c = λ us all h.
+    let none : arity_in c.args.operators.now c.args.named.now.word.bytes.now ≡ None = search rules in
+    wrong_unknown us (map view_named c.args.earlier.now) all (view_named c.args.named.now) (ap (λ o. arity_in o c.args.named.now.word.bytes.now) (sym h) ∙ none)
+
+pub returns-then-named-gt-MOST_KIDS : goal.returns-then-named-gt-MOST_KIDS
+returns-then-named-gt-MOST_KIDS c = λ us all h.
+    let some : arity_in c.args.operators.now c.args.named.now.word.bytes.now ≡ Some c.in-Some.known = search rules in
+    let many : nat_lt most_kids c.args.named.now.kids ≡ true = grind (arith, c.if-named-gt-MOST_KIDS.true) in
+    ap (λ b. b || checks.differs (or_count c.in-Some.known (spec.first_use (map view_named c.args.earlier.now) c.args.named.now.word.bytes.now)) c.args.named.now.kids) (sym many)
+    ∙ wrong_known us (map view_named c.args.earlier.now) all (view_named c.args.named.now) c.in-Some.known (ap (λ o. arity_in o c.args.named.now.word.bytes.now) (sym h) ∙ some)
+
+pub returns : goal.returns
+returns c = λ us all h.
+    let some : arity_in c.args.operators.now c.args.named.now.word.bytes.now ≡ Some c.in-Some.known = search rules in
+    let few : nat_lt most_kids c.args.named.now.kids ≡ false = grind (arith, c.if-named-gt-MOST_KIDS.false) in
+    let d : c.differs.result ≡ checks.differs (or_count c.in-Some.known (spec.first_use (map view_named c.args.earlier.now) c.args.named.now.word.bytes.now)) c.args.named.now.kids = search rules in
+    d ∙ ap (λ b. b || checks.differs (or_count c.in-Some.known (spec.first_use (map view_named c.args.earlier.now) c.args.named.now.word.bytes.now)) c.args.named.now.kids) (sym few)
+    ∙ wrong_known us (map view_named c.args.earlier.now) all (view_named c.args.named.now) c.in-Some.known (ap (λ o. arity_in o c.args.named.now.word.bytes.now) (sym h) ∙ some)

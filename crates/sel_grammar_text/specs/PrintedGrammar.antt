@@ -1,0 +1,72 @@
+-- How a grammar is printed.
+use Rattle.std.specs.Prelude.{◌≡◌, ℕ, ◌==◌, List, [], ◌++◌, map, Option, Some, None, codes, decimal, slice_index_or, if◌then◌else◌}
+use Rattle.std.specs.Fmt.{signed_decimal}
+use Rattle.std.specs.List.{flat_map}
+use Rattle.sel_base.specs.declared.range.Range.{Range}
+use Rattle.sel_grammar.specs.declared.grammar.Grammar.{Grammar}
+use Rattle.sel_grammar.specs.declared.grammar.Operator.{Operator}
+use Rattle.sel_grammar.specs.declared.grammar.Pattern.{Pattern, Leaf, Nullary, Unary', Binary', end_of-Pattern, more_of-Pattern}
+use Rattle.sel_grammar.specs.declared.grammar.Rule.{Rule}
+use Rattle.sel_grammar_text.specs.GrammarText.{SpellsGrammar}
+use Rattle.sel_grammar_text.specs.Printing.{printed_template}
+
+-- the name of that number, and none beyond the last
+abbrev pub name_at : List (List ℕ) → ℕ → List ℕ
+name_at names n = slice_index_or names n []
+
+abbrev pub operator_names : List Operator → List (List ℕ)
+operator_names operators = map (λ (operator : Operator). operator.name) operators
+
+-- a pattern, without blanks
+abbrev pub printed_pattern : List (List ℕ) → List (List ℕ) → Pattern → List ℕ
+printed_pattern ops nts (Leaf n) = name_at nts n
+printed_pattern ops nts (Nullary op) = name_at ops op
+printed_pattern ops nts (Unary' op s (more_of-Pattern p end_of-Pattern)) = name_at ops op ++ (codes "(" ++ (printed_pattern ops nts p ++ codes ")"))
+printed_pattern ops nts (Binary' op s (more_of-Pattern p end_of-Pattern) s' (more_of-Pattern q end_of-Pattern)) =
+    name_at ops op ++ (codes "(" ++ (printed_pattern ops nts p ++ (codes "," ++ (printed_pattern ops nts q ++ codes ")"))))
+
+-- what a range costs where it holds, unless that is 0
+abbrev pub printed_addend : ℕ → List ℕ
+printed_addend cost = if cost == 0 then [] else codes "+" ++ decimal cost
+
+-- the cost of a one-line rule: a number, or a range with its addend
+abbrev pub printed_cost : ℕ → Option Range → List ℕ
+printed_cost cost None = decimal cost
+printed_cost cost (Some range) = codes "range(a," ++ (signed_decimal range.lo ++ (codes "," ++ (signed_decimal range.hi ++ (codes ")" ++ printed_addend cost))))
+
+-- A rule's tail: that of a BURG rule where it gives itself a number, else a template and a cost. Only a cost's first
+-- number is printed: texts spell no second one, so it is 0 in each grammar that a text spells.
+abbrev pub printed_tail : Option ℕ → Rule → List ℕ
+printed_tail (Some external) rule = codes " = " ++ (decimal external ++ (codes " (" ++ (decimal rule.cost.first ++ codes ");")))
+printed_tail None rule = codes " \"" ++ (printed_template rule.template.parts ++ (codes "\" " ++ printed_cost rule.cost.first rule.range))
+
+-- a rule on its line
+abbrev pub printed_rule : List (List ℕ) → List (List ℕ) → Rule → List ℕ
+printed_rule ops nts rule = name_at nts rule.left ++ (codes ": " ++ (printed_pattern ops nts rule.pattern ++ (printed_tail rule.external rule ++ codes "\n")))
+
+-- an operator on its line
+abbrev pub printed_operator : Operator → List ℕ
+printed_operator operator = codes "%term " ++ (operator.name ++ (codes "=" ++ (decimal operator.external ++ codes "\n")))
+
+-- The grammar's text: the start symbol, the operators, `%%` and the rules, each on a line that ends with LF.
+unfoldable pub printed : Grammar → List ℕ
+printed g =
+    codes "%start " ++ (name_at g.nonterminals g.start ++ (codes "\n" ++ (flat_map printed_operator g.operators
+    ++ (codes "%%\n" ++ flat_map (printed_rule (operator_names g.operators) g.nonterminals) g.rules))))
+
+-- the rule at no place
+abbrev pub without_place : Rule → Rule
+without_place rule = record rule { line = 0; column = 0 }
+
+-- the two grammars are equal but for the places of their rules
+pub record IsSameButPlaces (g h : Grammar) : Type 0 where
+  pub start : g.start ≡ h.start
+  pub operators : g.operators ≡ h.operators
+  pub nonterminals : g.nonterminals ≡ h.nonterminals
+  pub rules : map without_place g.rules ≡ map without_place h.rules
+
+-- the text spells a grammar that is this one but for the places of rules
+pub record SpellsAgain (text : List ℕ) (g : Grammar) : Type 0 where
+  pub read : Grammar
+  pub spells : SpellsGrammar text read
+  pub same : IsSameButPlaces g read
