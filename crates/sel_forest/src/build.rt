@@ -13,21 +13,15 @@ use sel_base::{List, NoMemory};
 use sel_grammar::{Attribute, Grammar};
 use std::alloc::Global;
 
-fn attach(node: Node, at: u32) -> Node
-    ensures { result ≡ attached node at }
+fn attach(node: &mut Node, at: u32)
+    ensures { node.new ≡ attached node.old at }
 {
     if node.kids == 0 {
-        Node {
-            kids: 1,
-            left: at,
-            ..node
-        }
+        node.kids = 1;
+        node.left = at;
     } else {
-        Node {
-            kids: 2,
-            right: at,
-            ..node
-        }
+        node.kids = 2;
+        node.right = at;
     }
 }
 
@@ -40,22 +34,21 @@ fn close(stack: &mut Vec<Node>, nodes: &mut Vec<Node>) -> Result<(), NoMemory>
     let at = nodes.len() as u32;
     if let Some(inner) = stack.pop() {
         nodes.push(inner)?;
-        if let Some(outer) = stack.pop() {
-            stack.push(attach(outer, at))?;
+        if let Some(outer) = stack.last_mut() {
+            attach(outer, at);
         }
     }
     Ok(())
 }
 
 /// Gives the innermost open node an attribute.
-fn set_attribute(stack: &mut Vec<Node>, attribute: Attribute) -> Result<(), NoMemory>
-    ensures { (below : List Node) (inner : Node) → stack.old.items ≡ below ++ (inner ∷ []) → OnOk result (
-        stack.new.items ≡ below ++ (record { operator = inner.operator; kids = inner.kids; left = inner.left; right = inner.right; attribute = attribute } ∷ [])) }
+fn set_attribute(stack: &mut Vec<Node>, attribute: Attribute)
+    ensures { (below : List Node) (inner : Node) → stack.old.items ≡ below ++ (inner ∷ []) →
+        stack.new.items ≡ below ++ (record { operator = inner.operator; kids = inner.kids; left = inner.left; right = inner.right; attribute = attribute } ∷ []) }
 {
-    if let Some(inner) = stack.pop() {
-        stack.push(Node { attribute, ..inner })?;
+    if let Some(inner) = stack.last_mut() {
+        inner.attribute = attribute;
     }
-    Ok(())
 }
 
 /// What a token does to the open nodes.
@@ -87,13 +80,13 @@ pub fn take(
         }
         Piece::Number(bytes) => {
             if let Some(number) = number(bytes) {
-                set_attribute(stack, Attribute::Number(number))?;
+                set_attribute(stack, Attribute::Number(number));
             }
             Ok(())
         }
         Piece::Symbol(bytes) => {
             let symbol = List::from_vec(Vec::from_slice(alloc, bytes)?);
-            set_attribute(stack, Attribute::Symbol(symbol))?;
+            set_attribute(stack, Attribute::Symbol(symbol));
             Ok(())
         }
         Piece::Comma | Piece::Close => {
