@@ -2,11 +2,9 @@
 
 ghost use Rattle.std.specs.Prelude.{◌≡◌, ℕ, List, [], ◌∷◌, ◌++◌, ◌<◌, ◌≤◌, ◌+◌, ◌^◌, length, Some, None, OnOk, IfOk};
 ghost use Rattle.sel_forest.specs.OpenNodes.{attached, Opened, opened_next, Holds, TakesToken};
-ghost use Rattle.sel_forest.specs.Guesses.{AreGuesses};
-ghost use Rattle.sel_forest.specs.Pieces.{view, IsLawful};
+ghost use Rattle.sel_forest.specs.Pieces.{view, IsLawful, IsNamedBy};
 
 use crate::forest::{Node, Tree};
-use crate::guess::operator_of;
 use crate::number::number;
 use crate::tokens::Piece;
 use sel_base::{List, NoMemory};
@@ -51,26 +49,23 @@ fn set_attribute(stack: &mut Vec<Node>, attribute: Attribute)
     }
 }
 
-/// What a token does to the open nodes.
+/// What a token does to the open nodes. The operator is that which the token names.
 pub fn take(
     alloc: Global,
-    grammar: &Grammar,
-    guesses: &[u8],
     stack: &mut Vec<Node>,
     nodes: &mut Vec<Node>,
+    operator: u8,
     piece: &Piece<'_>,
 ) -> Result<(), NoMemory>
-    requires guesses { AreGuesses grammar.now guesses.now }
-    requires operators { length grammar.now.operators < 2 ^ 8 }
     requires room { length nodes.old.items < 2 ^ 32 }
     requires lawful { IsLawful (view piece.now) }
-    ensures { (os : List Opened) → Holds os stack.old.items nodes.old.items → TakesToken os (view piece.now)
-        → IfOk result (λ _. Holds (opened_next grammar.now os (view piece.now)) stack.new.items nodes.new.items) }
+    ensures { (g : Grammar) (os : List Opened) → IsNamedBy g operator (view piece.now) → Holds os stack.old.items nodes.old.items → TakesToken os (view piece.now)
+        → IfOk result (λ _. Holds (opened_next g os (view piece.now)) stack.new.items nodes.new.items) }
 {
     match piece {
-        Piece::Name(name) => {
+        Piece::Name(_) => {
             stack.push(Node {
-                operator: operator_of(grammar, guesses, name) as u8,
+                operator,
                 kids: 0,
                 left: 0,
                 right: 0,

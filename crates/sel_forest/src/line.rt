@@ -84,10 +84,9 @@ fn after_end(state: State) -> Option<State>
     ensures { result ≡ machine.step state End }
 {
     match state {
-        State::Start
-        | State::Named(0)
-        | State::Attributed(0)
-        | State::Closed(0) => Some(State::Ended),
+        State::Start | State::Named(0) | State::Attributed(0) | State::Closed(0) => Some(
+            State::Ended,
+        ),
         _ => None,
     }
 }

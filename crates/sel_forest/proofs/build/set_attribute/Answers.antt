@@ -1,4 +1,4 @@
-use Rattle.std.proofs.Common.{◌∙◌, ◌++◌, ◌∷◌, [], ap, sym, arith}
+use Rattle.std.proofs.Common.{◌∙◌, ◌++◌, ◌∷◌, [], ap, arith}
 use Rattle.sel_forest.proofs.PutDown.{marked, last_is, last_set}
 use Rattle.sel_forest.proofs.build.set_attribute.Goals as goal
 
