@@ -4,15 +4,14 @@ use Rattle.std.specs.Option.{OnSome}
 use Rattle.sel_grammar.specs.declared.grammar.Grammar.{Grammar}
 use Rattle.sel_forest.specs.declared.forest.Node.{Node}
 use Rattle.sel_forest.specs.declared.forest.Tree.{Tree}
-use Rattle.sel_forest.specs.declared.faults.Surroundings.{Surroundings}
 use Rattle.sel_forest.specs.Limits as limits
 use Rattle.sel_forest.specs.Limits.{most_nodes, most_trees}
 use Rattle.sel_forest.specs.Tokens.{Token, token_of, skip, width, start, first}
 use Rattle.sel_forest.specs.LineFaults.{Around, around, kind_of, HasFirstFault}
 use Rattle.sel_forest.specs.ForestText.{IsLineResult}
-use Rattle.sel_forest.specs.OpenNodes.{Opened, kids_nodes, own_node, own_nodes, put_down, opened_next, bare_in, parents_in, first_parent, TakesToken, Holds}
+use Rattle.sel_forest.specs.OpenNodes.{Opened, kids_nodes, own_node, own_nodes, put_down, opened_next, TakesToken, Holds}
 use Rattle.sel_forest.specs.Pieces.{IsLawful}
-use Rattle.sel_forest.specs.Surroundings.{Meets}
+use Rattle.sel_forest.specs.Surroundings.{Surrounds}
 use Rattle.sel_forest.specs.Machine.{step, wants_attribute, open_count}
 use Rattle.sel_forest.specs.declared.line.State.{State}
 use Rattle.sel_forest.specs.declared.line.State.TheVariants.{Start, Ended}
@@ -47,13 +46,9 @@ pub record Sees (s : State) (rest : List ℕ) (flag : Bool) (text behind : List 
   pub behind_is : behind ≡ drop (width t) (skip rest)
   pub stepped : o ≡ step s t
 
--- What the calls on its surroundings gave.
-pub record Judges (g : Grammar) (trees : ℕ) (s : State) (stack nodes : List Node) (t : Token) (place : Surroundings) (k : Option ℕ) : Type 0 where
-  pub names : place.names ≡ length nodes + length stack
-  pub bare : (os : List Opened) → stack ≡ own_nodes os → bare_in s os ≡ place.bare
-  pub parents : (os : List Opened) → stack ≡ own_nodes os → length (parents_in s os) ≡ place.parents
-  pub parent : (os : List Opened) → stack ≡ own_nodes os → first_parent (parents_in s os) ≡ place.parent
-  pub kind : (a : Around) → Meets a place → k ≡ kind_of g trees a t
+-- What the call on its kind of fault gave.
+pub record Judges (g : Grammar) (trees : ℕ) (s : State) (stack nodes : List Node) (t : Token) (k : Option ℕ) : Type 0 where
+  pub kind : (a : Around) (os : List Opened) → Surrounds a os s stack (length nodes) → k ≡ kind_of g trees a t
 
 module _ (g : Grammar) (trees : ℕ) (line : List ℕ) (s : State) (rest : List ℕ) (stack nodes : List Node) (r : Reached g trees line s rest stack nodes) where
   pub reached_depth : open_count s ≤ length line
@@ -86,21 +81,21 @@ module _ (g : Grammar) (trees : ℕ) (line : List ℕ) (s : State) (rest : List 
     sees_stray two h =
         subst (λ x. HasFirstFault g trees line limits.token (length line - length x)) (sym e.from) (stands_stray g two trees line r.n s rest r.stands (steps None h))
 
-    module _ (place : Surroundings) (k : Option ℕ) (j : Judges g trees s stack nodes t place k) where
-      meets : Meets (around g (first r.n (start line))) place
-      meets =
+    module _ (k : Option ℕ) (j : Judges g trees s stack nodes t k) where
+      surrounds : Surrounds (around g (first r.n (start line))) (opened g (first r.n (start line))) s stack (length nodes)
+      surrounds =
           let os = opened g (first r.n (start line)) in
           let a : length nodes ≡ length (put_down os) = ap length r.holds.nodes_are in
           let b : length stack ≡ length (own_nodes os) = ap length r.holds.stack_is in
           record {
-            names = omega (arith, a, b, length-own os, total_is os, r.stands.fits.names, j.names);
-            depth = ap length r.stands.fits.parents ∙ j.parents os r.holds.stack_is;
-            bare = r.stands.fits.bare ∙ j.bare os r.holds.stack_is;
-            parent = ap first_parent r.stands.fits.parents ∙ j.parent os r.holds.stack_is;
+            stack_is = r.holds.stack_is;
+            names = omega (arith, a, b, length-own os, total_is os, r.stands.fits.names);
+            bare = r.stands.fits.bare;
+            parents = r.stands.fits.parents;
           }
 
       judged : (x : Option ℕ) → k ≡ x → kind_of g trees (around g (first r.n (start line))) (token_here s rest) ≡ x
-      judged x h = ap (kind_of g trees (around g (first r.n (start line)))) (sym seen) ∙ sym (j.kind (around g (first r.n (start line))) meets) ∙ h
+      judged x h = ap (kind_of g trees (around g (first r.n (start line)))) (sym seen) ∙ sym (j.kind (around g (first r.n (start line))) (opened g (first r.n (start line))) surrounds) ∙ h
 
       pub sees_wrong : HasPairsAtMost g → (u : State) (kind : ℕ) → o ≡ Some u → k ≡ Some kind → HasFirstFault g trees line kind (length line - length text)
       sees_wrong two u kind h w =
@@ -142,8 +137,9 @@ pub end_short : (g : Grammar) (trees : ℕ) (line : List ℕ) (os : List Opened)
 end_short g trees line os stack nodes h (inl e) = let k : length stack ≡ 0 = ap length h.stack_is ∙ ap (λ o. length (own_nodes o)) e.0 in omega arith
 end_short g trees line os stack nodes h (inr e) = let k : length stack ≡ 1 = ap length h.stack_is ∙ ap (λ o. length (own_nodes o)) e.1 in omega arith
 
-pub both_lengths : (a b x y : ℕ) → a ≡ x → b ≡ y → a + b ≡ x + y
-both_lengths a b x y h k = omega arith
+-- The stack and the number of nodes under other names.
+pub same_place : (a : Around) (os : List Opened) (s : State) (stack stack' : List Node) (nodes nodes' : ℕ) → stack ≡ stack' → nodes ≡ nodes' → Surrounds a os s stack nodes → Surrounds a os s stack' nodes'
+same_place a os s stack stack' nodes nodes' e f h = subst (λ x. Surrounds a os s x nodes') e (subst (λ n. Surrounds a os s stack n) f h)
 
 pub few_nodes : (a b x y : ℕ) → a ≡ x → b ≡ y → x + y ≤ most_nodes → a + b < 2 ^ 63
 few_nodes a b x y h k small = omega arith

@@ -1,7 +1,8 @@
 -- Ending the innermost open node puts its node down behind its kids' nodes.
-use Rattle.std.proofs.Common.{◌≡◌, ℕ, ◌+◌, ◌-◌, ◌<◌, List, [], ◌∷◌, ◌++◌, Option, Some, None, refl, ap, sym, ◌∙◌, arith, length, length-append, append_assoc, append-nil, slice_get, map}
+use Rattle.std.proofs.Common.{◌≡◌, ℕ, ◌+◌, ◌-◌, ◌<◌, List, [], ◌∷◌, ◌++◌, Option, Some, None, refl, ap, sym, ◌∙◌, arith, length, length-append, append_assoc, append-nil, slice_get, slice_index_or, slice_set, map}
 use Rattle.std.specs.Option.{option_map}
-use Rattle.std.proofs.lemmas.List.{length-map}
+use Rattle.std.proofs.lemmas.List.{length-map, append_cancel_right}
+use Rattle.std.proofs.Math.Seq.{get_or-append_seam, set-append_seam}
 use Rattle.sel_grammar.specs.declared.grammar.Attribute.{Attribute}
 use Rattle.sel_grammar.specs.declared.grammar.Attribute.TheVariants as attribute
 use Rattle.sel_grammar.specs.PlainTrees.{PlainTree, size}
@@ -161,3 +162,21 @@ all_length os stack e = let l = length-map os parent_of in omega (arith, ap leng
 pub first_bare : (os : List Opened) → option_map (λ (p : Parent). p.operator) (first_parent (map parent_of os)) ≡ first_operator os
 first_bare [] = refl
 first_bare (o ∷ os) = refl
+
+-- The last of a list, and another in its place.
+pub last_is : (xs below : List Node) (x d : Node) (n : ℕ) → xs ≡ below ++ (x ∷ []) → n ≡ length xs → slice_index_or xs (n - 1) d ≡ x
+last_is xs below x d n e l =
+    let at : n - 1 ≡ length below = let a : length xs ≡ length (below ++ (x ∷ [])) = ap length e in omega (arith, a, l, length-append below (x ∷ [])) in
+    ap (λ i. slice_index_or xs i d) at ∙ ap (λ ys. slice_index_or ys (length below) d) e ∙ get_or-append_seam below x [] d
+
+pub last_set : (xs below : List Node) (x y : Node) (n : ℕ) → xs ≡ below ++ (x ∷ []) → n ≡ length xs → slice_set xs (n - 1) y ≡ below ++ (y ∷ [])
+last_set xs below x y n e l =
+    let at : n - 1 ≡ length below = let a : length xs ≡ length (below ++ (x ∷ [])) = ap length e in omega (arith, a, l, length-append below (x ∷ [])) in
+    ap (λ i. slice_set xs i y) at ∙ ap (λ ys. slice_set ys (length below) y) e ∙ set-append_seam below x [] y
+
+-- Two lists with a last element are equal only if their fronts and their last are.
+pub same_last : (xs : List Node) (x : Node) (ys : List Node) (y : Node) → xs ++ (x ∷ []) ≡ ys ++ (y ∷ []) → x ≡ y
+same_last xs x ys y e = sym (last_is (xs ++ (x ∷ [])) xs x x (length (xs ++ (x ∷ []))) refl refl) ∙ last_is (xs ++ (x ∷ [])) ys y x (length (xs ++ (x ∷ []))) e refl
+
+pub same_front : (xs : List Node) (x : Node) (ys : List Node) (y : Node) → xs ++ (x ∷ []) ≡ ys ++ (y ∷ []) → xs ≡ ys
+same_front xs x ys y e = append_cancel_right xs ys (x ∷ []) (e ∙ ap (λ z. ys ++ (z ∷ [])) (sym (same_last xs x ys y e)))

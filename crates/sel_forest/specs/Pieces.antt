@@ -1,12 +1,13 @@
 -- What the code's tokens and rests of a text stand for.
-use Rattle.std.specs.Prelude.{ℕ, List, [], Option, Some, None}
+use Rattle.std.specs.Prelude.{◌≡◌, ℕ, List, [], Option, Some, None}
 use Rattle.std.specs.Str.Parse.{AllDigits}
 use Rattle.std.specs.Borrow.{Bor}
 use Rattle.sel_forest.specs.declared.tokens.Piece.{Piece}
 use Rattle.sel_forest.specs.declared.tokens.Piece.TheVariants as piece
 use Rattle.sel_forest.specs.Tokens.{Token, Name, Number, Symbol, Colon, Open, Comma, Close, Bad, End}
 use Rattle.sel_forest.specs.Symbols.{IsSymbol}
-use Rattle.sel_forest.specs.TreeText.{without_sign}
+use Rattle.sel_grammar.specs.declared.grammar.Grammar.{Grammar}
+use Rattle.sel_forest.specs.TreeText.{without_sign, operator_number}
 use Rattle.sel_forest.specs.ForestText.{lines_of}
 
 -- a token of the code, without where its bytes lie
@@ -26,6 +27,11 @@ abbrev pub IsLawful : Token → Type 0
 IsLawful (Number bytes) = AllDigits 10 (without_sign bytes)
 IsLawful (Symbol bytes) = IsSymbol bytes
 IsLawful _ = Unit {0}
+
+-- a name is that of the operator with this number
+abbrev pub IsNamedBy : Grammar → ℕ → Token → Type 0
+IsNamedBy g k (Name bytes) = operator_number g bytes ≡ k
+IsNamedBy g k _ = Unit {0}
 
 -- the lines of what stands behind a line feed, if there was one
 abbrev pub lines_behind : Option (Bor (List ℕ)) → List (List ℕ)

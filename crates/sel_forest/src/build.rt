@@ -2,32 +2,24 @@
 
 ghost use Rattle.std.specs.Prelude.{◌≡◌, ℕ, List, [], ◌∷◌, ◌++◌, ◌<◌, ◌≤◌, ◌+◌, ◌^◌, length, Some, None, OnOk, IfOk};
 ghost use Rattle.sel_forest.specs.OpenNodes.{attached, Opened, opened_next, Holds, TakesToken};
-ghost use Rattle.sel_forest.specs.Guesses.{AreGuesses};
-ghost use Rattle.sel_forest.specs.Pieces.{view, IsLawful};
+ghost use Rattle.sel_forest.specs.Pieces.{view, IsLawful, IsNamedBy};
 
 use crate::forest::{Node, Tree};
-use crate::guess::operator_of;
 use crate::number::number;
 use crate::tokens::Piece;
 use sel_base::{List, NoMemory};
 use sel_grammar::{Attribute, Grammar};
 use std::alloc::Global;
 
-fn attach(node: Node, at: u32) -> Node
-    ensures { result ≡ attached node at }
+fn attach(node: &mut Node, at: u32)
+    ensures { node.new ≡ attached node.old at }
 {
     if node.kids == 0 {
-        Node {
-            kids: 1,
-            left: at,
-            ..node
-        }
+        node.kids = 1;
+        node.left = at;
     } else {
-        Node {
-            kids: 2,
-            right: at,
-            ..node
-        }
+        node.kids = 2;
+        node.right = at;
     }
 }
 
@@ -40,44 +32,40 @@ fn close(stack: &mut Vec<Node>, nodes: &mut Vec<Node>) -> Result<(), NoMemory>
     let at = nodes.len() as u32;
     if let Some(inner) = stack.pop() {
         nodes.push(inner)?;
-        if let Some(outer) = stack.pop() {
-            stack.push(attach(outer, at))?;
+        if let Some(outer) = stack.last_mut() {
+            attach(outer, at);
         }
     }
     Ok(())
 }
 
 /// Gives the innermost open node an attribute.
-fn set_attribute(stack: &mut Vec<Node>, attribute: Attribute) -> Result<(), NoMemory>
-    ensures { (below : List Node) (inner : Node) → stack.old.items ≡ below ++ (inner ∷ []) → OnOk result (
-        stack.new.items ≡ below ++ (record { operator = inner.operator; kids = inner.kids; left = inner.left; right = inner.right; attribute = attribute } ∷ [])) }
+fn set_attribute(stack: &mut Vec<Node>, attribute: Attribute)
+    ensures { (below : List Node) (inner : Node) → stack.old.items ≡ below ++ (inner ∷ []) →
+        stack.new.items ≡ below ++ (record { operator = inner.operator; kids = inner.kids; left = inner.left; right = inner.right; attribute = attribute } ∷ []) }
 {
-    if let Some(inner) = stack.pop() {
-        stack.push(Node { attribute, ..inner })?;
+    if let Some(inner) = stack.last_mut() {
+        inner.attribute = attribute;
     }
-    Ok(())
 }
 
-/// What a token does to the open nodes.
+/// What a token does to the open nodes. The operator is that which the token names.
 pub fn take(
     alloc: Global,
-    grammar: &Grammar,
-    guesses: &[u8],
     stack: &mut Vec<Node>,
     nodes: &mut Vec<Node>,
+    operator: u8,
     piece: &Piece<'_>,
 ) -> Result<(), NoMemory>
-    requires guesses { AreGuesses grammar.now guesses.now }
-    requires operators { length grammar.now.operators < 2 ^ 8 }
     requires room { length nodes.old.items < 2 ^ 32 }
     requires lawful { IsLawful (view piece.now) }
-    ensures { (os : List Opened) → Holds os stack.old.items nodes.old.items → TakesToken os (view piece.now)
-        → IfOk result (λ _. Holds (opened_next grammar.now os (view piece.now)) stack.new.items nodes.new.items) }
+    ensures { (g : Grammar) (os : List Opened) → IsNamedBy g operator (view piece.now) → Holds os stack.old.items nodes.old.items → TakesToken os (view piece.now)
+        → IfOk result (λ _. Holds (opened_next g os (view piece.now)) stack.new.items nodes.new.items) }
 {
     match piece {
-        Piece::Name(name) => {
+        Piece::Name(_) => {
             stack.push(Node {
-                operator: operator_of(grammar, guesses, name) as u8,
+                operator,
                 kids: 0,
                 left: 0,
                 right: 0,
@@ -87,13 +75,13 @@ pub fn take(
         }
         Piece::Number(bytes) => {
             if let Some(number) = number(bytes) {
-                set_attribute(stack, Attribute::Number(number))?;
+                set_attribute(stack, Attribute::Number(number));
             }
             Ok(())
         }
         Piece::Symbol(bytes) => {
             let symbol = List::from_vec(Vec::from_slice(alloc, bytes)?);
-            set_attribute(stack, Attribute::Symbol(symbol))?;
+            set_attribute(stack, Attribute::Symbol(symbol));
             Ok(())
         }
         Piece::Comma | Piece::Close => {

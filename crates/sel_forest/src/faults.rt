@@ -1,17 +1,17 @@
 //! What may be wrong with a token of a line.
 
-ghost use Rattle.std.specs.Prelude.{◌≡◌, ℕ, ◌++◌, ◌∷◌, ◌<◌, ◌≤◌, ◌^◌, [], List, length, slice_get, map, ◌+◌, bytes_eq, None, Some};
+ghost use Rattle.std.specs.Prelude.{◌≡◌, ℕ, ◌++◌, ◌∷◌, ◌<◌, ◌≤◌, ◌^◌, [], List, length, slice_get, map, ◌+◌, bytes_eq, None, Some, if◌then◌else◌};
 ghost use Rattle.std.specs.Option.{option_copied, option_map};
-ghost use Rattle.sel_grammar.specs.Limits.{IsWithinLimits};
-ghost use Rattle.sel_forest.specs.Guesses.{AreGuesses};
 ghost use Rattle.sel_forest.specs.LineFaults as faults;
 ghost use Rattle.sel_forest.specs.LineFaults.{Around};
+ghost use Rattle.sel_forest.specs.Limits as limits;
+ghost use Rattle.sel_forest.specs.Tokens.{Open, Comma, Close, End};
 ghost use Rattle.sel_forest.specs.OpenNodes.{Opened, own_nodes, put_down, bare_in, parents_in, parent_of, behind_first, first_parent};
-ghost use Rattle.sel_forest.specs.Pieces.{view, IsLawful};
-ghost use Rattle.sel_forest.specs.Surroundings.{Meets};
+ghost use Rattle.sel_forest.specs.Pieces.{view, IsLawful, IsNamedBy};
+ghost use Rattle.sel_forest.specs.Surroundings.{Surrounds};
+ghost use Rattle.sel_forest.specs.TreeText.{operator_number};
 
 use crate::forest::Node;
-use crate::guess::operator_of;
 use crate::limits::{
     ARITY, GREATEST_DEPTH, MOST_NODES, MOST_TREES, NUMBER_LARGE, TOO_DEEP, TOO_MANY_NODES,
     TOO_MANY_TREES, UNKNOWN_OPERATOR,
@@ -27,16 +27,6 @@ use sel_grammar::Grammar;
 pub struct Parent {
     pub operator: u8,
     pub kids: u8,
-}
-
-/// What surrounds a place on a line: the names so far, how many parents there are and the innermost
-/// of them, and the operator that came last where no parenthesis followed it.
-#[derive(Clone, Copy, Debug)]
-pub struct Surroundings {
-    pub names: usize,
-    pub parents: usize,
-    pub bare: Option<u8>,
-    pub parent: Option<Parent>,
 }
 
 fn least_kids(grammar: &Grammar, operator: u8) -> u8
@@ -99,73 +89,6 @@ fn wants_another(grammar: &Grammar, parent: Option<Parent>) -> bool
     }
 }
 
-fn has_wrong_arity(grammar: &Grammar, place: Surroundings, piece: &Piece<'_>) -> bool
-    ensures { (a : Around) → Meets a place → result ≡ faults.has_wrong_arity grammar.now a (view piece.now) }
-{
-    match piece {
-        Piece::Open => takes_none(grammar, place.bare),
-        Piece::Comma => wants_some(grammar, place.bare) || takes_no_further(grammar, place.parent),
-        Piece::Close => wants_some(grammar, place.bare) || wants_another(grammar, place.parent),
-        Piece::End => wants_some(grammar, place.bare),
-        _ => false,
-    }
-}
-
-fn name_kind(
-    grammar: &Grammar,
-    guesses: &[u8],
-    trees: usize,
-    place: Surroundings,
-    name: &[u8],
-) -> Option<u8>
-    requires { AreGuesses grammar.now guesses.now }
-    ensures { (a : Around) → Meets a place → result ≡ faults.name_kind grammar.now trees a name.now }
-{
-    if trees >= MOST_TREES && place.names == 0 {
-        Some(TOO_MANY_TREES)
-    } else if place.parents >= GREATEST_DEPTH {
-        Some(TOO_DEEP)
-    } else if place.names >= MOST_NODES {
-        Some(TOO_MANY_NODES)
-    } else if grammar
-        .operators
-        .get(operator_of(grammar, guesses, name))
-        .is_none()
-    {
-        Some(UNKNOWN_OPERATOR)
-    } else {
-        None
-    }
-}
-
-/// The kind of what is wrong with a token with which some line of the form goes on.
-pub fn kind_of(
-    grammar: &Grammar,
-    guesses: &[u8],
-    trees: usize,
-    place: Surroundings,
-    piece: &Piece<'_>,
-) -> Option<u8>
-    requires guesses { AreGuesses grammar.now guesses.now }
-    requires lawful { IsLawful (view piece.now) }
-    ensures { (a : Around) → Meets a place → result ≡ faults.kind_of grammar.now trees a (view piece.now) }
-{
-    match piece {
-        Piece::Name(name) => name_kind(grammar, guesses, trees, place, name),
-        Piece::Number(bytes) => match number(bytes) {
-            None => Some(NUMBER_LARGE),
-            Some(_) => None,
-        },
-        _ => {
-            if has_wrong_arity(grammar, place, piece) {
-                Some(ARITY)
-            } else {
-                None
-            }
-        }
-    }
-}
-
 fn as_parent(node: &Node) -> Parent
     ensures { result ≡ record { operator = node.now.operator; kids = node.now.kids } }
 {
@@ -210,34 +133,125 @@ fn second_parent(stack: &[Node]) -> Option<Parent>
     }
 }
 
-/// What surrounds the place behind what was read.
-pub fn surroundings_of(state: State, stack: &[Node], nodes: usize) -> Surroundings
-    requires { nodes + length stack.now < 2 ^ 63 }
-    ensures names { result.names ≡ nodes + length stack.now }
-    ensures bare { (os : List Opened) → stack.now ≡ own_nodes os → bare_in state os ≡ result.bare }
-    ensures parents { (os : List Opened) → stack.now ≡ own_nodes os → length (parents_in state os) ≡ result.parents }
-    ensures parent { (os : List Opened) → stack.now ≡ own_nodes os → first_parent (parents_in state os) ≡ result.parent }
+/// The operator that came last, where no parenthesis followed it.
+fn bare(state: State, stack: &[Node]) -> Option<u8>
+    ensures { (os : List Opened) → stack.now ≡ own_nodes os → bare_in state os ≡ result }
 {
-    let names = nodes + stack.len();
-    let last = last_parent(stack);
     match state {
-        State::Start | State::Wanted(_) | State::Ended => Surroundings {
-            names,
-            parents: stack.len(),
-            bare: None,
-            parent: last,
+        State::Named(_) | State::Colonned(_) | State::Attributed(_) => operator(last_parent(stack)),
+        State::Start | State::Wanted(_) | State::Closed(_) | State::Ended => None,
+    }
+}
+
+/// The innermost parent.
+fn innermost_parent(state: State, stack: &[Node]) -> Option<Parent>
+    ensures { (os : List Opened) → stack.now ≡ own_nodes os → first_parent (parents_in state os) ≡ result }
+{
+    match state {
+        State::Start | State::Wanted(_) | State::Ended => last_parent(stack),
+        _ => second_parent(stack),
+    }
+}
+
+/// How many parents there are.
+fn parent_count(state: State, stack: &[Node]) -> usize
+    ensures { (os : List Opened) → stack.now ≡ own_nodes os → length (parents_in state os) ≡ result }
+{
+    match state {
+        State::Start | State::Wanted(_) | State::Ended => stack.len(),
+        State::Named(_) | State::Colonned(_) | State::Attributed(_) | State::Closed(_) => stack
+            .len()
+            .saturating_sub(1),
+    }
+}
+
+/// The kind where the number of kids is wrong.
+fn arity_kind(wrong: bool) -> Option<u8>
+    ensures { result ≡ (if wrong then Some limits.arity else None) }
+{
+    if wrong { Some(ARITY) } else { None }
+}
+
+fn open_is_wrong(grammar: &Grammar, state: State, stack: &[Node]) -> bool
+    ensures { (a : Around) (os : List Opened) (nodes : ℕ) → Surrounds a os state stack.now nodes → result ≡ faults.has_wrong_arity grammar.now a Open }
+{
+    takes_none(grammar, bare(state, stack))
+}
+
+fn comma_is_wrong(grammar: &Grammar, state: State, stack: &[Node]) -> bool
+    ensures { (a : Around) (os : List Opened) (nodes : ℕ) → Surrounds a os state stack.now nodes → result ≡ faults.has_wrong_arity grammar.now a Comma }
+{
+    wants_some(grammar, bare(state, stack))
+        || takes_no_further(grammar, innermost_parent(state, stack))
+}
+
+fn close_is_wrong(grammar: &Grammar, state: State, stack: &[Node]) -> bool
+    ensures { (a : Around) (os : List Opened) (nodes : ℕ) → Surrounds a os state stack.now nodes → result ≡ faults.has_wrong_arity grammar.now a Close }
+{
+    wants_some(grammar, bare(state, stack))
+        || wants_another(grammar, innermost_parent(state, stack))
+}
+
+fn end_is_wrong(grammar: &Grammar, state: State, stack: &[Node]) -> bool
+    ensures { (a : Around) (os : List Opened) (nodes : ℕ) → Surrounds a os state stack.now nodes → result ≡ faults.has_wrong_arity grammar.now a End }
+{
+    wants_some(grammar, bare(state, stack))
+}
+
+fn name_kind(
+    grammar: &Grammar,
+    trees: usize,
+    names: usize,
+    parents: usize,
+    operator: usize,
+) -> Option<u8>
+    ensures { (a : Around) (name : List ℕ) → a.names ≡ names → length a.parents ≡ parents → operator_number grammar.now name ≡ operator → result ≡ faults.name_kind grammar.now trees a name }
+{
+    if trees >= MOST_TREES && names == 0 {
+        Some(TOO_MANY_TREES)
+    } else if parents >= GREATEST_DEPTH {
+        Some(TOO_DEEP)
+    } else if names >= MOST_NODES {
+        Some(TOO_MANY_NODES)
+    } else if grammar.operators.get(operator).is_none() {
+        Some(UNKNOWN_OPERATOR)
+    } else {
+        None
+    }
+}
+
+/// The kind of what is wrong with a token with which some line of the form goes on. The operator is
+/// that which the token names.
+pub fn kind_of(
+    grammar: &Grammar,
+    trees: usize,
+    state: State,
+    stack: &[Node],
+    nodes: usize,
+    operator: usize,
+    piece: &Piece<'_>,
+) -> Option<u8>
+    requires lawful { IsLawful (view piece.now) }
+    requires named { IsNamedBy grammar.now operator (view piece.now) }
+    requires small { nodes + length stack.now < 2 ^ 63 }
+    ensures { (a : Around) (os : List Opened) → Surrounds a os state stack.now nodes → result ≡ faults.kind_of grammar.now trees a (view piece.now) }
+{
+    match piece {
+        Piece::Name(_) => name_kind(
+            grammar,
+            trees,
+            nodes + stack.len(),
+            parent_count(state, stack),
+            operator,
+        ),
+        Piece::Number(bytes) => match number(bytes) {
+            None => Some(NUMBER_LARGE),
+            Some(_) => None,
         },
-        State::Closed(_) => Surroundings {
-            names,
-            parents: stack.len().saturating_sub(1),
-            bare: None,
-            parent: second_parent(stack),
-        },
-        State::Named(_) | State::Colonned(_) | State::Attributed(_) => Surroundings {
-            names,
-            parents: stack.len().saturating_sub(1),
-            bare: operator(last),
-            parent: second_parent(stack),
-        },
+        Piece::Open => arity_kind(open_is_wrong(grammar, state, stack)),
+        Piece::Comma => arity_kind(comma_is_wrong(grammar, state, stack)),
+        Piece::Close => arity_kind(close_is_wrong(grammar, state, stack)),
+        Piece::End => arity_kind(end_is_wrong(grammar, state, stack)),
+        Piece::Symbol(_) | Piece::Colon | Piece::Bad(_) => None,
     }
 }

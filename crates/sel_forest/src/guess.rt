@@ -3,8 +3,10 @@
 ghost use Rattle.std.specs.Prelude.{◌≡◌, ◌<◌, ◌≤◌, length, bytes_eq, IfOk};
 ghost use Rattle.sel_grammar.specs.Limits.{most_operators};
 ghost use Rattle.sel_forest.specs.Guesses.{AreGuesses, guess_places};
+ghost use Rattle.sel_forest.specs.Pieces.{view, IsNamedBy};
 ghost use Rattle.sel_forest.specs.TreeText.{operator_number};
 
+use crate::tokens::Piece;
 use sel_base::NoMemory;
 use sel_grammar::{Grammar, Operator};
 use std::alloc::Global;
@@ -59,7 +61,7 @@ pub fn guesses_of(alloc: Global, grammar: &Grammar) -> Result<Vec<u8>, NoMemory>
 }
 
 /// The number of the operator with this name, or the number of operators.
-pub fn operator_of(grammar: &Grammar, guesses: &[u8], name: &[u8]) -> usize
+fn operator_of(grammar: &Grammar, guesses: &[u8], name: &[u8]) -> usize
     requires { AreGuesses grammar.now guesses.now }
     ensures number { result ≡ operator_number grammar.now name.now }
     ensures fits { result ≤ length grammar.now.operators }
@@ -71,4 +73,16 @@ pub fn operator_of(grammar: &Grammar, guesses: &[u8], name: &[u8]) -> usize
         }
     }
     operator_number(grammar, name)
+}
+
+/// The number of the operator that the token names.
+pub fn operator_named(grammar: &Grammar, guesses: &[u8], piece: &Piece<'_>) -> usize
+    requires { AreGuesses grammar.now guesses.now }
+    ensures named { IsNamedBy grammar.now result (view piece.now) }
+    ensures fits { result ≤ length grammar.now.operators }
+{
+    match piece {
+        Piece::Name(name) => operator_of(grammar, guesses, name),
+        _ => 0,
+    }
 }

@@ -10,9 +10,9 @@ ghost use Rattle.sel_forest.specs.Pieces.{lines_behind};
 ghost use Rattle.sel_forest.specs.Valid.{IsValidForest};
 
 use crate::build::{finish, take};
-use crate::faults::{kind_of, surroundings_of};
+use crate::faults::kind_of;
 use crate::forest::{Forest, Node, Tree};
-use crate::guess::guesses_of;
+use crate::guess::{guesses_of, operator_named};
 use crate::limits::{MOST_NODES, TOKEN};
 use crate::line::{State, step, wants_attribute};
 use crate::refusal::{ForestFault, ForestRefusal};
@@ -120,15 +120,23 @@ fn read_line(
         let Some(next) = step(state, &found.piece) else {
             return Err(fault(TOKEN, number, line, found.from));
         };
-        let place = surroundings_of(state, stack, nodes.len());
-        if let Some(kind) = kind_of(grammar, guesses, trees, place, &found.piece) {
+        let operator = operator_named(grammar, guesses, &found.piece);
+        if let Some(kind) = kind_of(
+            grammar,
+            trees,
+            state,
+            stack,
+            nodes.len(),
+            operator,
+            &found.piece,
+        ) {
             return Err(fault(kind, number, line, found.from));
         }
         if let State::Ended = next {
             let tree = finish(stack, nodes)?;
             return Ok(tree);
         }
-        take(alloc, grammar, guesses, stack, &mut nodes, &found.piece)?;
+        take(alloc, stack, &mut nodes, operator as u8, &found.piece)?;
         state = next;
         rest = found.behind;
     }

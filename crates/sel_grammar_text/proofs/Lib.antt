@@ -11,6 +11,7 @@ pub mod OneAnswer
 pub mod Decided
 pub mod Deciding
 pub mod PlaceSteps
+pub mod MarkSteps
 pub mod Bordering
 pub mod Depths
 pub mod Tails

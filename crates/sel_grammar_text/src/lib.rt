@@ -10,6 +10,7 @@ mod finish;
 mod form;
 mod item;
 pub mod laws;
+mod mark;
 mod meaning;
 mod names;
 mod number;

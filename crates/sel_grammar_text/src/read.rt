@@ -1,10 +1,11 @@
 //! Grammars read from text.
 
 ghost use Rattle.std.specs.Prelude.{◌≡◌, ℕ, ◌+◌, ◌-◌, ◌<◌, ◌≤◌, ◌^◌, List, ◌++◌, length, take, IfOk, IfErr, OnOk};
+ghost use Rattle.std.specs.List.{AllByRecursion};
 ghost use Rattle.sel_grammar.specs.Lawful.{IsLawful};
 ghost use Rattle.sel_grammar_text.specs.Extents.{StandsAtItem, HasExtent};
 ghost use Rattle.sel_grammar_text.specs.GrammarText.{SpellsGrammar, GrammarRefusedFor};
-ghost use Rattle.sel_grammar_text.specs.Places.{IsPlaceBehind};
+ghost use Rattle.sel_grammar_text.specs.Places.{IsMark, IsPlaceBehind};
 ghost use Rattle.sel_grammar_text.specs.Reading.{IsReading, IsTaken, StopsFor};
 ghost use Rattle.sel_grammar_text.specs.declared.read.Stop.TheVariants as Stop;
 
@@ -13,6 +14,7 @@ use crate::fault::Fault;
 use crate::finish::{end_fault, grammar_of};
 use crate::form::State;
 use crate::item::{item, spots_of};
+use crate::mark::{Mark, add_mark, place_of};
 use crate::place::{Place, advance};
 use crate::scan::{Extent, next_extent};
 use crate::tables::Tables;
@@ -101,10 +103,13 @@ fn finish(bytes: &[u8], tables: Tables<'_>, extent: &Extent<'_>) -> Result<Gramm
     Ok(grammar_of(tables))
 }
 
-fn read_items(alloc: Global, bytes: &[u8]) -> Result<Grammar, Stop>
+/// Reads a text's items, and adds a mark where each begins.
+fn read_items(alloc: Global, bytes: &[u8], marks: &mut Vec<Mark>) -> Result<Grammar, Stop>
     requires short { length bytes.now < 4294967295 }
+    requires marks { AllByRecursion (IsMark bytes.now) marks.old.items }
     ensures grammar { IfOk result (λ grammar. SpellsGrammar bytes.now grammar) }
     ensures stop { IfErr result (λ stop. StopsFor bytes.now stop) }
+    ensures marks { AllByRecursion (IsMark bytes.now) marks.new.items }
 {
     let mut tables = Tables::new(alloc);
     let mut from = Position {
@@ -113,6 +118,9 @@ fn read_items(alloc: Global, bytes: &[u8]) -> Result<Grammar, Stop>
         place: Place { line: 1, column: 1 },
     };
     'items: loop {
+        let at = bytes.len() - from.left.len();
+        let place = from.place;
+        add_mark(marks, Mark { at, place })?;
         let extent = match next_extent(bytes.len(), from.state, from.left) {
             Ok(extent) => extent,
             Err(fault) => return Err(Stop::Fault(fault)),
@@ -125,26 +133,6 @@ fn read_items(alloc: Global, bytes: &[u8]) -> Result<Grammar, Stop>
     }
 }
 
-/// The bytes before a place, or all.
-fn front(bytes: &[u8], at: usize) -> &[u8]
-    ensures front { result.now ≡ take at bytes.now }
-    ensures within { length result.now ≤ length bytes.now }
-{
-    if at < bytes.len() {
-        &bytes[..at]
-    } else {
-        bytes
-    }
-}
-
-/// The line and the column of a place in the text.
-fn place_of(bytes: &[u8], at: usize) -> Place
-    requires { length bytes.now < 4294967295 }
-    ensures { IsPlaceBehind (take at bytes.now) result }
-{
-    advance(Place { line: 1, column: 1 }, front(bytes, at))
-}
-
 /// The grammar that the text spells, or its first fault, by the rules of a grammar's text: declarations,
 /// `%%`, rules, and, where they stand, a second `%%` and what is passed over behind it.
 pub fn read_grammar(alloc: Global, bytes: &[u8]) -> Result<Grammar, GrammarRefusal>
@@ -153,11 +141,12 @@ pub fn read_grammar(alloc: Global, bytes: &[u8]) -> Result<Grammar, GrammarRefus
     ensures lawful { IfOk result (λ grammar. IsLawful grammar) }
     ensures fault { IfErr result (λ refusal. GrammarRefusedFor bytes.now refusal) }
 {
-    match read_items(alloc, bytes) {
+    let mut marks = Vec::new(alloc);
+    match read_items(alloc, bytes, &mut marks) {
         Ok(grammar) => Ok(grammar),
         Err(Stop::NoMemory) => Err(GrammarRefusal::NoMemory),
         Err(Stop::Fault(fault)) => {
-            let place = place_of(bytes, fault.at);
+            let place = place_of(bytes, marks.as_slice(), fault.at);
             Err(GrammarRefusal::Fault(GrammarFault {
                 kind: fault.kind,
                 line: place.line,

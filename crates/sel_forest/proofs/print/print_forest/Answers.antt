@@ -1,6 +1,6 @@
 -- Each turn prints a line, and the whole text spells the forest.
-use Rattle.std.proofs.Common.{◌≡◌, ◌<◌, ◌≤◌, length, slice_index_or, sym, ◌∙◌, subst}
-use Rattle.sel_forest.specs.Printed.{IsPrinted}
+use Rattle.std.proofs.Common.{◌≡◌, ◌<◌, ◌≤◌, length, slice_index_or, sym, ap, ◌∙◌, ◌++◌, subst}
+use Rattle.sel_forest.specs.Printed.{IsPrinted, tree_text}
 use Rattle.sel_forest.proofs.Reprinting.{tree_at, printed_at, printed_whole, printed_spells}
 use Rattle.sel_forest.proofs.print.print_forest.Goals as goal
 
@@ -22,7 +22,7 @@ trees-preserved c =
     let valid = tree_at g forest c.trees.tree-index c.tree-item.result c.requires.valid lt is in
     record {
       printed = printed_at g forest c.trees.tree-index c.tree-item.result valid.plain c.trees.text.items c.print_tree.new.text.items c.put.new.text.items lt is valid.postorder
-          c.trees.invariant.printed (c.in_ok-print_tree.ensures.text valid.plain valid.postorder) c.in_ok-put.ensures;
+          c.trees.invariant.printed (c.in_ok-print_tree.ensures.text valid.plain valid.postorder ∙ ap (λ x. x ++ tree_text g valid.plain) c.in_ok-reserve.ensures) c.in_ok-put.ensures;
       empty = c.in_ok-print_tree.ensures.emptied;
     }
 
