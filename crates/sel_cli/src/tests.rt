@@ -40,13 +40,17 @@ pub const PLAIN: Case<'static> = Case {
 
 // How the case ended, and what `out` and `err` took.
 #[derive(Drop)]
-struct End {
-    status: Status,
-    out: MemorySink,
-    err: MemorySink,
+pub struct End {
+    pub status: Status,
+    pub out: MemorySink,
+    pub err: MemorySink,
 }
 
-fn end_of(rt: &(impl Abort + Threads + Sync), alloc: Global, case: &Case<'_>) -> Result<End, Fail> {
+pub fn end_of(
+    rt: &(impl Abort + Threads + Sync),
+    alloc: Global,
+    case: &Case<'_>,
+) -> Result<End, Fail> {
     let mut words = Vec::new(alloc);
     for word in case.words {
         words.push(String::from_str(alloc, word)?)?;

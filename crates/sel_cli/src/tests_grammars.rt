@@ -1,6 +1,6 @@
 // Grammars of the whole language, through the top call: covers, refusals, and texts in print.
 use crate::status::Status;
-use crate::tests::{Case, PLAIN, ends};
+use crate::tests::{Case, PLAIN, end_of, ends};
 use sel_grammar::GrammarFault;
 use std::alloc::Global;
 use std::test::Fail;
@@ -134,11 +134,13 @@ fn a_long_row_takes_the_cheaper_chain(rt: HostRuntime) -> Result<(), Fail> {
     let case = Case {
         grammar: "%term X=1 U=2\n%%\ns: a \"\"\ns: b \"\"\na: U(a) \"\" 1\nb: U(b) \"\" 2\na: X \"\"\nb: X \"\"\n",
         forest: forest.as_str(),
-        out: out.as_str(),
         piece: 1_000,
         ..PLAIN
     };
-    ends(&rt, alloc, &case)
+    let end = end_of(&rt, alloc, &case)?;
+    assert_eq!(rt; end.status, Status::Done);
+    assert_eq!(rt; end.out.bytes(), out.as_str().as_bytes());
+    Ok(())
 }
 
 const fn refused(kind: u8, line: u32, column: u32) -> Status {
