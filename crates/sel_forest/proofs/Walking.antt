@@ -17,7 +17,7 @@ use Rattle.sel_forest.specs.declared.walk.Goal.{Goal}
 use Rattle.sel_forest.specs.Postorder.{postorder}
 use Rattle.sel_forest.specs.Places.{IsRootAt, goals}
 use Rattle.sel_forest.specs.Covers.{IsChecked}
-use Rattle.sel_forest.specs.Goals.{IsRuleFor, AppliesRule}
+use Rattle.sel_forest.specs.Goals.{DerivesAt, IsRuleFor, AppliesRule}
 use Rattle.sel_forest.proofs.PlaceLemmas.{append-none}
 use Rattle.sel_forest.proofs.Matching.{some_same, Match, goals_match}
 use Rattle.sel_forest.proofs.Lying.{given, fits_is, fits_some, fits_subtrees}
@@ -26,10 +26,6 @@ use Rattle.sel_forest.proofs.Roots.{same_tree, stands_root}
 
 sums_swap : (t p a b : Cost) → t ⊕ ((p ⊕ a) ⊕ b) ≡ (t ⊕ p) ⊕ (a ⊕ b)
 sums_swap t p a b = ap (λ x. t ⊕ x) (sum_assoc p a b) ∙ sym (sum_assoc t p (a ⊕ b))
-
--- a derivation of a goal
-abbrev pub DerivesAt : Grammar → List Node → Derivation → Goal → Type 0
-DerivesAt g nodes d goal = (t : PlainTree) × (IsRootAt nodes goal.at t × Derives g d goal.nonterminal t)
 
 -- derivations of goals, one by one
 abbrev pub ForGoals : Grammar → List Node → Derivations → List Goal → Type 0

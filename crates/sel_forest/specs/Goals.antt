@@ -1,12 +1,18 @@
--- A rule that is applied to a goal.
+-- Derivations of a goal, and a rule that is applied to one.
 use Rattle.std.specs.Prelude.{◌≡◌, ℕ, true, Option, Some, None, List, ◌++◌, reverse}
 use Rattle.sel_grammar.specs.declared.grammar.Grammar.{Grammar}
 use Rattle.sel_grammar.specs.declared.grammar.Rule.{Rule}
 use Rattle.sel_grammar.specs.declared.grammar.RuleCost.{RuleCost}
+use Rattle.sel_grammar.specs.PlainTrees.{PlainTree}
 use Rattle.sel_grammar.specs.Fits.{rule_at}
+use Rattle.sel_grammar.specs.Derivations.{Derivation, Derives}
 use Rattle.sel_forest.specs.declared.forest.Node.{Node}
 use Rattle.sel_forest.specs.declared.walk.Goal.{Goal}
-use Rattle.sel_forest.specs.Places.{goals, fits_at}
+use Rattle.sel_forest.specs.Places.{IsRootAt, goals, fits_at}
+
+-- a derivation of a goal: of the tree at its node, from its nonterminal
+abbrev pub DerivesAt : Grammar → List Node → Derivation → Goal → Type 0
+DerivesAt g nodes d goal = (t : PlainTree) × (IsRootAt nodes goal.at t × Derives g d goal.nonterminal t)
 
 -- the rule of this number fits the goal
 pub record IsRuleFor (g : Grammar) (nodes : List Node) (goal : Goal) (number : ℕ) : Type 0 where

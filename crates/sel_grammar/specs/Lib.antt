@@ -2,6 +2,7 @@ pub mod Best
 pub mod Chains
 pub mod Costs
 pub mod Derivations
+pub mod Expansions
 pub mod Firsts
 pub mod Fits
 pub mod Lawful
