@@ -1,0 +1,9 @@
+pub mod Slotted
+pub mod Placing
+pub mod Emitting
+pub mod Sizing
+pub mod Recording
+pub mod Leading
+pub mod KidValues
+pub mod Lines
+pub mod Wholes

@@ -1,0 +1,12 @@
+//! The text of a cover, by the templates of its rules.
+#![tactic(auto)]
+
+mod book;
+mod booking;
+mod expansion;
+mod places;
+mod printing;
+mod sizes;
+mod templates;
+
+pub use expansion::{Expander, Expansion, LONGEST_TEXT, expand};
