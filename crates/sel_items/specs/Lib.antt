@@ -1,0 +1,10 @@
+pub mod Automata
+pub mod CostBounds
+pub mod Entries
+pub mod Follows
+pub mod ItemsOf
+pub mod KidSets
+pub mod Labels
+pub mod Laws
+pub mod Tabled
+pub mod Words
