@@ -1,0 +1,11 @@
+pub mod BestParts
+pub mod Deciders
+pub mod EntryGoals
+pub mod GoalKids
+pub mod ItemLaws
+pub mod Meanings
+pub mod NodeSets
+pub mod OneItems
+pub mod OneSet
+pub mod Rows
+pub mod Subtrees

@@ -1,5 +1,5 @@
 -- Costs whose numbers are bounded.
-use Rattle.std.specs.Prelude.{◌≡◌, ℕ, pos, neg_ℤ, ◌<ℤ◌, ◌≤ℤ◌, ◌<◌, ◌^◌, Some, length}
+use Rattle.std.specs.Prelude.{◌≡◌, ℕ, pos, neg_ℤ, ◌<ℤ◌, ◌<◌, ◌^◌, Some, length}
 use Rattle.sel_grammar.specs.Costs.{Cost}
 use Rattle.sel_normal.specs.NormalForms.{NormalForm}
 use Rattle.sel_items.specs.declared.items.Item.{Item}

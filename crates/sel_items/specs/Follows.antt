@@ -1,5 +1,5 @@
 -- The item set that follows from a node's operator, its class and its kids' item sets, by candidates (after Proebsting's states with relative costs).
-use Rattle.std.specs.Prelude.{◌≡◌, ℕ, ◌<◌, ◌==◌, ◌&&◌, if◌then◌else◌, Bool, true, Option, Some, None, List, [], ◌∷◌, length, slice_get}
+use Rattle.std.specs.Prelude.{◌≡◌, ℕ, ◌<◌, ◌==◌, ◌&&◌, if◌then◌else◌, Bool, true, Option, Some, None, List, [], ◌∷◌, length}
 use Rattle.std.specs.Option.{option_map}
 use Rattle.sel_base.specs.declared.range.Range.{Range}
 use Rattle.sel_grammar.specs.Costs.{Cost, no_cost, ◌⊕◌, paid}

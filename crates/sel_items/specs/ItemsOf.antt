@@ -1,5 +1,5 @@
 -- The item set of a tree, by derivations of the user's grammar.
-use Rattle.std.specs.Prelude.{◌≡◌, ℕ, ℤ, ◌+◌, ◌<◌, Option, Some, None, List, [], ◌∷◌, length, slice_get}
+use Rattle.std.specs.Prelude.{◌≡◌, ℕ, ℤ, ◌+◌, ◌<◌, Option, Some, None, [], ◌∷◌, length, slice_get}
 use Rattle.sel_grammar.specs.declared.grammar.Attribute.{Attribute}
 use Rattle.sel_grammar.specs.declared.grammar.Attribute.TheVariants.{Number}
 use Rattle.sel_grammar.specs.declared.grammar.Grammar.{Grammar}

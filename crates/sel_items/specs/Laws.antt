@@ -1,7 +1,6 @@
 -- Laws of item sets.
-use Rattle.std.specs.Prelude.{◌≡◌, ℕ, ◌<◌, ◌^◌}
+use Rattle.std.specs.Prelude.{◌≡◌, ◌<◌, ◌^◌}
 use Rattle.sel_grammar.specs.declared.grammar.Grammar.{Grammar}
-use Rattle.sel_grammar.specs.Chains.{HasNoFreeCycle}
 use Rattle.sel_grammar.specs.Lawful.{IsLawful}
 use Rattle.sel_grammar.specs.PlainTrees.{PlainTree, attribute_of, size}
 use Rattle.sel_range.specs.Limits.{IsAttributeValue}

@@ -6,5 +6,6 @@ pub mod ItemsOf
 pub mod KidSets
 pub mod Labels
 pub mod Laws
+pub mod LeastCosts
 pub mod Tabled
 pub mod Words

@@ -1,6 +1,5 @@
 -- Entries as words of 64 bits: which entries fit, and the word of each.
-use Rattle.std.specs.Prelude.{◌≡◌, ℕ, ℤ, pos, neg_ℤ, ◌+ℤ◌, ◌≤ℤ◌, ◌+◌, ◌*◌, ◌<◌, ◌^◌, Option, Some, None}
-use Rattle.sel_base.specs.declared.pair.Pair.{Pair}
+use Rattle.std.specs.Prelude.{◌≡◌, ℕ, pos, neg_ℤ, ◌+ℤ◌, ◌≤ℤ◌, ◌+◌, ◌*◌, ◌<◌, ◌^◌, Option, Some, None}
 use Rattle.sel_grammar.specs.Costs.{Cost}
 use Rattle.sel_items.specs.declared.items.Item.{Item}
 use Rattle.sel_items.specs.declared.items.Items.{Items}

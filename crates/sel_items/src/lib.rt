@@ -5,6 +5,7 @@ mod automaton;
 mod evaluation;
 mod items;
 mod label;
+pub mod laws;
 
 pub use automaton::Automaton;
 pub use evaluation::evaluate;
