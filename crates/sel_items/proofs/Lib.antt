@@ -3,6 +3,7 @@ pub mod Deciders
 pub mod EntryGoals
 pub mod GoalKids
 pub mod ItemLaws
+pub mod KidSetLaws
 pub mod Meanings
 pub mod NodeSets
 pub mod OneItems

@@ -3,6 +3,7 @@ use Rattle.std.specs.Prelude.{◌≡◌, ◌<◌, ◌^◌}
 use Rattle.sel_grammar.specs.declared.grammar.Grammar.{Grammar}
 use Rattle.sel_grammar.specs.Lawful.{IsLawful}
 use Rattle.sel_grammar.specs.PlainTrees.{PlainTree, attribute_of, size}
+use Rattle.sel_grammar.specs.SmallCosts.{HasSmallCosts}
 use Rattle.sel_range.specs.Limits.{IsAttributeValue}
 use Rattle.sel_normal.specs.NormalForms.{NormalForm}
 use Rattle.sel_normal.specs.NormalFaults.{IsAccepted}
@@ -12,9 +13,10 @@ use Rattle.sel_items.specs.CostBounds.{IsKidSet}
 use Rattle.sel_items.specs.Follows.{NodeKey, Follows}
 use Rattle.sel_items.specs.ItemsOf.{IsItemsOf, IsKeyOf, attribute_number}
 
--- A grammar that is lawful and accepted, and its normal form.
+-- A grammar that is lawful and accepted, the costs of its rules within their limit, and its normal form.
 pub record IsAcceptedForm (g : Grammar) (normal : NormalForm) : Type 0 where
   pub lawful : IsLawful g
+  pub costs : HasSmallCosts g
   pub accepted : IsAccepted g
   pub form : IsFormOf g normal
 
