@@ -9,4 +9,5 @@ pub mod NodeSets
 pub mod OneItems
 pub mod OneSet
 pub mod Rows
+pub mod Shifts
 pub mod Subtrees

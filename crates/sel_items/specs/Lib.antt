@@ -8,4 +8,5 @@ pub mod Labels
 pub mod Laws
 pub mod LeastCosts
 pub mod Tabled
+pub mod Unpacking
 pub mod Words

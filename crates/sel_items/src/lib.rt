@@ -6,8 +6,13 @@ mod evaluation;
 mod items;
 mod label;
 pub mod laws;
+mod packing;
 
 pub use automaton::Automaton;
 pub use evaluation::evaluate;
 pub use items::{Item, Items};
 pub use label::Label;
+pub use packing::{pack, unpack};
+
+#[cfg(test)]
+mod tests_packing;
