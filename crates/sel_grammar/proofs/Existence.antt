@@ -58,7 +58,7 @@ each_subtree P (Binary' o s (more_of-Pattern p end_of-Pattern) s' (more_of-Patte
     go true (Some xs) None e f h k l = absurd (some_none (sym h))
     go true (Some xs) (Some ys) e f h k l = subst (λ x. Each P x) (some_same h) (Each-append P xs ys (k xs e) (l ys f))
 
-fits_subtrees : (rule : Rule) (t : PlainTree) (ts : List PlainTree) → fits rule t ≡ Some ts → subtrees rule.pattern t ≡ Some ts
+pub fits_subtrees : (rule : Rule) (t : PlainTree) (ts : List PlainTree) → fits rule t ≡ Some ts → subtrees rule.pattern t ≡ Some ts
 fits_subtrees rule t ts h = go (in_range rule.range (attribute_of t)) h
   where
     go : (b : Bool) → (if b then subtrees rule.pattern t else None) ≡ Some ts → subtrees rule.pattern t ≡ Some ts

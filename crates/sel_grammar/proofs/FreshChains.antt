@@ -60,7 +60,7 @@ rule_within g (suc k) rule at = let h = slice_get_within g.rules k rule at in om
 no_rule : (g : Grammar) (r : ℕ) (rule : Rule) → rule_at g r ≡ None → rule_at g r ≡ Some rule → ⊥
 no_rule g r rule h k = some_none (sym k ∙ h)
 
-chain_cost : (g : Grammar) (r : ℕ) (rule : Rule) (d : Derivation) → rule_at g r ≡ Some rule → cost g (Deriv r (more d no_more)) ≡ price rule ⊕ cost g d
+pub chain_cost : (g : Grammar) (r : ℕ) (rule : Rule) (d : Derivation) → rule_at g r ≡ Some rule → cost g (Deriv r (more d no_more)) ≡ price rule ⊕ cost g d
 chain_cost g r rule d at = same_sums (rule_cost (rule_at g r)) (price rule) (cost g d ⊕ no_cost) (cost g d) (ap rule_cost at) (sym (sum_none (cost g d)))
 
 module _ (g : Grammar) (t : PlainTree) where

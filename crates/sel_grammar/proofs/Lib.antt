@@ -9,5 +9,6 @@ pub mod One
 pub mod Order
 pub mod PatternShapes
 pub mod Ranks
+pub mod Short
 pub mod UsedRules
 pub mod Words

@@ -19,7 +19,7 @@ false_or : (a b : Bool) → ¬ (a ≡ true) → b ≡ false → (a || b) ≡ fal
 false_or true b h k = absurd (h refl)
 false_or false b h k = k
 
-true_or : (a b : Bool) → (a || b) ≡ true → (a ≡ true) ⊎ (b ≡ true)
+pub true_or : (a b : Bool) → (a || b) ≡ true → (a ≡ true) ⊎ (b ≡ true)
 true_or true b h = inl refl
 true_or false b h = inr h
 
@@ -101,3 +101,13 @@ unused_less (suc k) r s u h = go (same_or_not k r) (λ h. unused_less k r s u h)
         let b = slot_unused (s k) (ap s e ∙ u) in
         let c = unused_more k r s in omega arith
     go (inr e) rec = let a = slot_more (s k) (with_rule r s k) (with_more r s k) in let b = rec (omega arith) in omega arith
+
+-- no more than there are
+pub unused_le : (k : ℕ) (s : Used) → unused k s ≤ k
+unfolding unused slot
+unused_le zero s = omega arith
+unused_le (suc k) s = let a = slot_le (s k) in let b = unused_le k s in omega arith
+  where
+    slot_le : (b : Bool) → slot b ≤ 1
+    slot_le true = omega arith
+    slot_le false = omega arith

@@ -10,3 +10,4 @@ pub mod Laws
 pub mod Limits
 pub mod Names
 pub mod PlainTrees
+pub mod SmallCosts

@@ -1,0 +1,13 @@
+pub mod BestParts
+pub mod Deciders
+pub mod EntryGoals
+pub mod GoalKids
+pub mod ItemLaws
+pub mod KidSetLaws
+pub mod Meanings
+pub mod NodeSets
+pub mod OneItems
+pub mod OneSet
+pub mod Rows
+pub mod Shifts
+pub mod Subtrees

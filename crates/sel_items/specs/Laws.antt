@@ -1,0 +1,45 @@
+-- Laws of item sets.
+use Rattle.std.specs.Prelude.{◌≡◌, ◌<◌, ◌^◌}
+use Rattle.sel_grammar.specs.declared.grammar.Grammar.{Grammar}
+use Rattle.sel_grammar.specs.Lawful.{IsLawful}
+use Rattle.sel_grammar.specs.PlainTrees.{PlainTree, attribute_of, size}
+use Rattle.sel_grammar.specs.SmallCosts.{HasSmallCosts}
+use Rattle.sel_range.specs.Limits.{IsAttributeValue}
+use Rattle.sel_normal.specs.NormalForms.{NormalForm}
+use Rattle.sel_normal.specs.NormalFaults.{IsAccepted}
+use Rattle.sel_normal.specs.Forms.{IsFormOf}
+use Rattle.sel_items.specs.declared.items.Items.{Items}
+use Rattle.sel_items.specs.CostBounds.{IsKidSet}
+use Rattle.sel_items.specs.Follows.{NodeKey, Follows}
+use Rattle.sel_items.specs.ItemsOf.{IsItemsOf, IsKeyOf, attribute_number}
+
+-- A grammar that is lawful and accepted, the costs of its rules within their limit, and its normal form.
+pub record IsAcceptedForm (g : Grammar) (normal : NormalForm) : Type 0 where
+  pub lawful : IsLawful g
+  pub costs : HasSmallCosts g
+  pub accepted : IsAccepted g
+  pub form : IsFormOf g normal
+
+-- What follows from the key of a node is the node's item set, so relative costs keep what is least and what comes first.
+abbrev pub ItemsFollow : Type 0
+ItemsFollow = (g : Grammar) (normal : NormalForm) (t : PlainTree) (key : NodeKey) (items : Items) → IsAcceptedForm g normal → IsAttributeValue (attribute_number (attribute_of t)) → IsKeyOf g t key → Follows normal key items → IsItemsOf g t items
+
+-- And the other way round: the item set of a node follows from the node's key.
+abbrev pub ItemsOfFollow : Type 0
+ItemsOfFollow = (g : Grammar) (normal : NormalForm) (t : PlainTree) (key : NodeKey) (items : Items) → IsAcceptedForm g normal → IsAttributeValue (attribute_number (attribute_of t)) → IsKeyOf g t key → IsItemsOf g t items → Follows normal key items
+
+-- From a key follows one item set at most.
+abbrev pub FollowsIsOne : Type 0
+FollowsIsOne = (normal : NormalForm) (key : NodeKey) (i j : Items) → Follows normal key i → Follows normal key j → i ≡ j
+
+-- A tree has one item set at most.
+abbrev pub ItemsAreOne : Type 0
+ItemsAreOne = (g : Grammar) (t : PlainTree) (i j : Items) → IsItemsOf g t i → IsItemsOf g t j → i ≡ j
+
+-- Each tree has an item set.
+abbrev pub ItemsExist : Type 0
+ItemsExist = (g : Grammar) (t : PlainTree) → IsLawful g → IsAccepted g → (i : Items) × IsItemsOf g t i
+
+-- The item set of a tree of fewer than 2^16 nodes is one that its parent's may be evaluated from.
+abbrev pub ItemsAreKidSets : Type 0
+ItemsAreKidSets = (g : Grammar) (normal : NormalForm) (t : PlainTree) (i : Items) → IsAcceptedForm g normal → size t < 2 ^ 16 → IsItemsOf g t i → IsKidSet normal i

@@ -1,0 +1,12 @@
+pub mod Automata
+pub mod CostBounds
+pub mod Entries
+pub mod Follows
+pub mod ItemsOf
+pub mod KidSets
+pub mod Labels
+pub mod Laws
+pub mod LeastCosts
+pub mod Tabled
+pub mod Unpacking
+pub mod Words

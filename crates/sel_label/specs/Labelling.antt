@@ -1,0 +1,79 @@
+-- What the labels of a tree's nodes say.
+use Rattle.std.specs.Prelude.{◌≡◌, ℕ, ◌⊎◌, Bool, true, false, Some, List, length, slice_get}
+use Rattle.sel_grammar.specs.declared.grammar.Grammar.{Grammar}
+use Rattle.sel_grammar.specs.PlainTrees.{PlainTree, Node0, Node1, Node2}
+use Rattle.sel_forest.specs.declared.forest.Node.{Node}
+use Rattle.sel_forest.specs.Places.{IsRootAt}
+use Rattle.sel_items.specs.declared.items.Items.{Items}
+use Rattle.sel_items.specs.declared.label.Label.{Label}
+use Rattle.sel_items.specs.Follows.{NodeKey}
+use Rattle.sel_items.specs.ItemsOf.{IsItemsOf, IsKeyOf}
+use Rattle.sel_items.specs.Labels.{IsNumbered}
+use Rattle.sel_items.specs.Tabled.{IsTabled}
+
+-- the node at i has the label
+abbrev pub LabelAt : List Label → ℕ → Label → Type 0
+LabelAt labels i l = (slice_get labels i ≡ Some l)
+
+-- Each node has a label that means the item set of its subtree.
+abbrev pub LabelsMean : Grammar → (Label → Items → Type 0) → List Node → List Label → Type 0
+LabelsMean g means nodes labels = (i : ℕ) (u : PlainTree) → IsRootAt nodes i u → (l : Label) × LabelAt labels i l × ((items : Items) × means l items × IsItemsOf g u items)
+
+-- the tree u, whose root is the node j, is below the tree whose root is the node i
+abbrev pub StandsBelow : List Node → ℕ → PlainTree → ℕ → PlainTree → Type 0
+StandsBelow nodes i (Node0 op a) j u = ⊥
+StandsBelow nodes i (Node1 op a t) j u =
+    (node : Node) × (slice_get nodes i ≡ Some node) × (((node.left ≡ j) × (t ≡ u)) ⊎ StandsBelow nodes node.left t j u)
+StandsBelow nodes i (Node2 op a t v) j u =
+    (node : Node) × (slice_get nodes i ≡ Some node)
+    × ((((node.left ≡ j) × (t ≡ u)) ⊎ StandsBelow nodes node.left t j u) ⊎ (((node.right ≡ j) × (v ≡ u)) ⊎ StandsBelow nodes node.right v j u))
+
+-- the item set of the tree is held
+abbrev pub IsHeld : Grammar → (Items → Type 0) → PlainTree → Type 0
+IsHeld g held t = (i : Items) × IsItemsOf g t i × held i
+
+-- the item set of each node below the tree's root is
+abbrev pub AreHeldBelow : Grammar → (Items → Type 0) → PlainTree → Type 0
+AreHeldBelow g held (Node0 op a) = Unit {0}
+AreHeldBelow g held (Node1 op a t) = IsHeld g held t × AreHeldBelow g held t
+AreHeldBelow g held (Node2 op a t u) = IsHeld g held t × IsHeld g held u × AreHeldBelow g held t × AreHeldBelow g held u
+
+-- all nodes below the node have numbered labels
+abbrev pub AreNumberedBelow : List Node → List Label → ℕ → PlainTree → Type 0
+AreNumberedBelow nodes labels i u = (j : ℕ) (v : PlainTree) (m : Label) → StandsBelow nodes i u j v → LabelAt labels j m → IsNumbered m
+
+-- where a node's label is numbered, its item set is held, and all nodes below it have numbered labels
+abbrev pub NumberedAreHeld : Grammar → (Items → Type 0) → List Node → List Label → Type 0
+NumberedAreHeld g held nodes labels = (i : ℕ) (u : PlainTree) (l : Label) → IsRootAt nodes i u → LabelAt labels i l → IsNumbered l → IsHeld g held u × AreNumberedBelow nodes labels i u
+
+-- each tabled node has a numbered label
+abbrev pub TabledAreNumbered : Grammar → List Node → List Label → Type 0
+TabledAreNumbered g nodes labels = (i : ℕ) (u : PlainTree) (l : Label) → IsRootAt nodes i u → IsTabled g u → LabelAt labels i l → IsNumbered l
+
+-- each tabled node's key is known
+abbrev pub TabledAreKnown : Grammar → List Node → (NodeKey → Type 0) → Type 0
+TabledAreKnown g nodes known = (i : ℕ) (u : PlainTree) (k : NodeKey) → IsRootAt nodes i u → IsTabled g u → IsKeyOf g u k → known k
+
+-- What labels say of the nodes of a tree, where `means`, `held`, `known` and the marks are the automaton's behind the labelling.
+pub record AreLabelled (g : Grammar) (nodes : List Node) (means : Label → Items → Type 0) (held : Items → Type 0) (known : NodeKey → Type 0) (used_up row_full : Bool) (labels : List Label) : Type 0 where
+  pub long : length labels ≡ length nodes
+  pub mean : LabelsMean g means nodes labels
+  pub numbered : NumberedAreHeld g held nodes labels
+  pub tabled : used_up ≡ false → TabledAreNumbered g nodes labels
+  pub known_keys : used_up ≡ false → row_full ≡ false → TabledAreKnown g nodes known
+
+-- the key is one of a node of the tree, below which all item sets are held
+abbrev pub IsAskedKey : Grammar → (Items → Type 0) → List Node → NodeKey → Type 0
+IsAskedKey g held nodes k = (i : ℕ) × ((u : PlainTree) × IsRootAt nodes i u × IsKeyOf g u k × AreHeldBelow g held u)
+
+-- each key that was added is one of a node of the tree, below which all item sets are held
+abbrev pub AddsHeldKeys : Grammar → (Items → Type 0) → List Node → (NodeKey → Type 0) → (NodeKey → Type 0) → Type 0
+AddsHeldKeys g held nodes old new = (k : NodeKey) → new k → old k ⊎ IsAskedKey g held nodes k
+
+-- each key that was added is one of a node of the tree below which all labels are numbered
+abbrev pub AddsNumberedKeys : Grammar → List Node → List Label → (NodeKey → Type 0) → (NodeKey → Type 0) → Type 0
+AddsNumberedKeys g nodes labels old new = (k : NodeKey) → new k → old k ⊎ ((i : ℕ) × ((u : PlainTree) × IsRootAt nodes i u × IsKeyOf g u k × AreNumberedBelow nodes labels i u))
+
+-- each key that was added is one of a node of the tree
+abbrev pub AddsKeysOf : Grammar → List Node → (NodeKey → Type 0) → (NodeKey → Type 0) → Type 0
+AddsKeysOf g nodes old new = (k : NodeKey) → new k → old k ⊎ ((i : ℕ) × ((u : PlainTree) × IsRootAt nodes i u × IsKeyOf g u k))

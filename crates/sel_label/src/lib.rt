@@ -1,0 +1,6 @@
+//! The labels of a tree's nodes, by any automaton.
+#![tactic(auto)]
+
+mod labels;
+
+pub use labels::{Labels, label_tree};
