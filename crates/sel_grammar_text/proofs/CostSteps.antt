@@ -11,7 +11,7 @@ choose : (P : CostToken → Type 0) (b : Bool) (x y : CostToken) → (b ≡ true
 choose P true x y f g = f refl
 choose P false x y f g = g refl
 
-abbrev IsWide : CostToken → Type 0
+abbrev pub IsWide : CostToken → Type 0
 IsWide t = 0 < cost_width t
 
 take_wide : (m b : ℕ) (bs : List ℕ) → 0 < length (take (1 + m) (b ∷ bs))
@@ -24,7 +24,7 @@ or_left : (a b : Bool) → a ≡ true → (a || b) ≡ true
 or_left true b h = refl
 or_left false b h = cc
 
-token_wide : (b : ℕ) (more : List ℕ) → IsWide (cost_token b more)
+pub token_wide : (b : ℕ) (more : List ℕ) → IsWide (cost_token b more)
 token_wide b more =
     choose IsWide (is_letter b) _ _ (λ h. run_wide is_name_byte b more (or_left (is_letter b) (is_ascii_digit b) h))
     (λ _. choose IsWide (is_ascii_digit b) _ _ (λ h. run_wide is_ascii_digit b more h)

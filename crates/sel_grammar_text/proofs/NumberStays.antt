@@ -7,7 +7,7 @@ use Rattle.std.specs.List.{AllByRecursion}
 use Rattle.sel_grammar_text.specs.Items.{Word, RuleText}
 use Rattle.sel_grammar_text.specs.Names.{number_of, is_among, leaves, nonterminal_words, with_words}
 use Rattle.sel_grammar_text.specs.Patterns.{numbered, built}
-use Rattle.sel_grammar_text.specs.Meaning.{parts_of_tail, cost_number, range_of, external_of}
+use Rattle.sel_grammar_text.specs.Meaning.{parts_of_tail, cost_of, range_of, external_of}
 use Rattle.sel_grammar.specs.declared.grammar.Rule.{Rule}
 use Rattle.sel_grammar_text.specs.Tables.{rule_at}
 
@@ -102,7 +102,7 @@ rule_stays line column ops nts words r left pattern =
       left = number_of nts r.left.bytes;
       pattern = (built names).0;
       template = record { parts = parts_of_tail r.tail };
-      cost = record { first = cost_number r.tail; second = 0 };
+      cost = cost_of r.tail;
       range = range_of r.tail;
       external = external_of r.tail;
       line = line;

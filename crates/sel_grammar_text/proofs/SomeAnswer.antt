@@ -19,7 +19,7 @@ use Rattle.sel_grammar_text.specs.Machine.{step, run, begin}
 use Rattle.sel_grammar_text.specs.Laws.{SomeGrammarOrFault}
 use Rattle.sel_grammar_text.specs.declared.fault.Fault.{Fault}
 use Rattle.sel_grammar_text.specs.declared.form.State.{State}
-use Rattle.sel_grammar_text.specs.declared.form.State.TheVariants.{Declaring, Starting, Entering, Equating, Ruling, LeftName, Wanted, Named, Closed, External, Numbered, Pricing, Priced, Finishing, Ended}
+use Rattle.sel_grammar_text.specs.declared.form.State.TheVariants.{Declaring, Starting, Entering, Equating, Ruling, LeftName, Wanted, Named, Closed, External, Numbered, Pricing, Priced, Pairing, Paired, Finishing, Ended}
 use Rattle.sel_grammar_text.proofs.FormComplete.{goes_on, stops}
 use Rattle.sel_grammar_text.proofs.Steps.{Reached, reached_start, reached_next, reached_fault, reached_end, reached_end_fault, after-snoc}
 use Rattle.sel_grammar_text.proofs.Decided.{decided, undecided}
@@ -59,6 +59,8 @@ is_ended External = inr (λ e. cc)
 is_ended Numbered = inr (λ e. cc)
 is_ended Pricing = inr (λ e. cc)
 is_ended Priced = inr (λ e. cc)
+is_ended Pairing = inr (λ e. cc)
+is_ended Paired = inr (λ e. cc)
 is_ended Finishing = inr (λ e. cc)
 
 module _ (bytes : List ℕ) (n : ℕ) (s : State) (r : Reached bytes n s) where

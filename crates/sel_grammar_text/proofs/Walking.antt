@@ -19,7 +19,7 @@ use Rattle.sel_grammar_text.specs.Extents.{StandsAtItem, HasExtent}
 use Rattle.sel_grammar_text.specs.declared.fault.Fault.{Fault}
 use Rattle.sel_grammar_text.specs.declared.scan.Extent.{Extent}
 use Rattle.sel_grammar_text.specs.declared.form.State.{State}
-use Rattle.sel_grammar_text.specs.declared.form.State.TheVariants.{Declaring, Starting, Entering, Equating, Ruling, LeftName, Wanted, Named, Closed, External, Numbered, Pricing, Priced, Finishing, Ended}
+use Rattle.sel_grammar_text.specs.declared.form.State.TheVariants.{Declaring, Starting, Entering, Equating, Ruling, LeftName, Wanted, Named, Closed, External, Numbered, Pricing, Priced, Pairing, Paired, Finishing, Ended}
 use Rattle.sel_grammar_text.proofs.FormSound.{run-append}
 use Rattle.sel_grammar_text.proofs.FormComplete.{complete, goes_on, stops}
 use Rattle.sel_grammar_text.proofs.Steps.{Reached, reached_next, first-snoc, after-snoc, tokens-snoc, cutting-snoc}
