@@ -1,5 +1,5 @@
 -- A printed cost is read again.
-use Rattle.std.proofs.Common.{◌≡◌, ℕ, suc, zero, ◌+◌, ◌-◌, ◌^◌, ◌≤◌, ◌<◌, List, [], ◌∷◌, ◌++◌, Option, Some, None, Bool, true, false, length, drop, refl, ap, sym, ◌∙◌, subst, arith, cond, eqb, ◌&&◌, append-nil, length-drop}
+use Rattle.std.proofs.Common.{◌≡◌, ℕ, suc, zero, ◌+◌, ◌-◌, ◌^◌, ◌≤◌, ◌<◌, List, [], ◌∷◌, ◌++◌, Option, Some, None, Bool, true, false, length, drop, refl, ap, sym, ◌∙◌, subst, arith, cond, eqb, ◌&&◌, append-nil, append_assoc, length-drop}
 use Rattle.std.specs.Prelude.{codes, decimal, ℤ, pos, negsuc, neg_ℤ, nat_lt, nat_le, take_while}
 use Rattle.std.specs.Fmt.{signed_decimal}
 use Rattle.std.specs.Char.{is_ascii_digit}
@@ -158,19 +158,27 @@ costs_addend (suc m) n h k =
 abbrev range_tokens : Range → ℕ → ℕ → List CostToken
 range_tokens range m n = CostName (codes "range") ∷ Single 40 ∷ CostName (codes "a") ∷ Single 44 ∷ bound_token range.lo ∷ Single 44 ∷ bound_token range.hi ∷ Single 41 ∷ addend_tokens m n
 
+-- a range's pieces, one behind the other
+pub range_parts : (range : Range) (cost : RuleCost) → printed_cost cost (Some range) ≡ codes "range(a," ++ (signed_decimal range.lo ++ (codes "," ++ (signed_decimal range.hi ++ (codes ")" ++ printed_addend cost))))
+range_parts range cost = regroup (signed_decimal range.lo) (signed_decimal range.hi) (printed_addend cost)
+  where
+    regroup : (lo hi addend : List ℕ) → (codes "range(a," ++ (lo ++ (codes "," ++ (hi ++ codes ")")))) ++ addend ≡ codes "range(a," ++ (lo ++ (codes "," ++ (hi ++ (codes ")" ++ addend))))
+    regroup lo hi addend = simp append_assoc refl
+
 costs_range : (range : Range) (m n : ℕ) → m < 2 ^ 64 → n < 2 ^ 64 → IsBound range.lo → IsBound range.hi → Costs (printed_cost (pair m n) (Some range)) (range_tokens range m n)
 costs_range range m n h k lo hi =
     let end = 41 ∷ printed_addend (pair m n) in
     let second = 44 ∷ (signed_decimal range.hi ++ end) in
     let first = 44 ∷ (signed_decimal range.lo ++ second) in
-    costs_token 114 _ (40 ∷ 97 ∷ first) (CostName (codes "range")) _ refl refl refl
+    subst (λ x. Costs x (range_tokens range m n)) (sym (range_parts range (pair m n)))
+    (costs_token 114 _ (40 ∷ 97 ∷ first) (CostName (codes "range")) _ refl refl refl
     (costs_token 40 (97 ∷ first) (97 ∷ first) (Single 40) _ refl refl refl
     (costs_token 97 first first (CostName (codes "a")) _ refl refl refl
     (costs_token 44 (signed_decimal range.lo ++ second) _ (Single 44) _ (no_comment 44 _ refl) refl refl
     (costs_bound range.lo second _ lo refl
     (costs_token 44 (signed_decimal range.hi ++ end) _ (Single 44) _ (no_comment 44 _ refl) refl refl
     (costs_bound range.hi end _ hi refl
-    (costs_token 41 (printed_addend (pair m n)) _ (Single 41) _ (no_comment 41 _ refl) refl refl (costs_addend m n h k))))))))
+    (costs_token 41 (printed_addend (pair m n)) _ (Single 41) _ (no_comment 41 _ refl) refl refl (costs_addend m n h k)))))))))
 
 -- What a printed cost is read as.
 

@@ -23,7 +23,7 @@ use Rattle.sel_grammar_text.specs.Printing.{printed_template}
 use Rattle.sel_grammar_text.specs.PrintedGrammar.{printed_second, printed_amount, printed_cost, printed_addend, printed_tail}
 use Rattle.sel_grammar_text.proofs.Printed.{Stops, Each}
 use Rattle.sel_grammar_text.proofs.PrintedTokens.{CutsInto, IsNumber, cuts_template, cuts_number, cuts_mark, cuts_external, cuts_closing, over_blank, tells}
-use Rattle.sel_grammar_text.proofs.PrintedCosts.{decimal_number, decimal_value, each_digit, IsBound, not_zero, pair, first_of, amount_at, amount_place, second_place, addend_at, fifth, seventh, behind_eighth, amount_in, range_in, bound_value, bound_small, bound_fits, or_place_none, amount_fits, pair_so, amount_value, amount_small, addend_value, addend_small}
+use Rattle.sel_grammar_text.proofs.PrintedCosts.{decimal_number, decimal_value, each_digit, IsBound, not_zero, pair, range_parts, first_of, amount_at, amount_place, second_place, addend_at, fifth, seventh, behind_eighth, amount_in, range_in, bound_value, bound_small, bound_fits, or_place_none, amount_fits, pair_so, amount_value, amount_small, addend_value, addend_small}
 use Rattle.sel_grammar_text.proofs.PrintedTemplates.{IsReadAgain}
 use Rattle.sel_grammar_text.proofs.FormItems.{head_of, tail_of, amount_text, tail_text}
 use Rattle.sel_grammar_text.proofs.FormCuts.{LastFine}
@@ -202,9 +202,11 @@ cost_on_line w (Ranged q lo hi addend) h =
     let fits = amount_fits addend b.1 in
     let end : Each is_on_line (printed_addend cost) =
     addend_on_line (printed_amount cost) (amount_on_line cost.first cost.second fits.0 fits.1 (eqb cost.second 0)) (eqb cost.first 0 && eqb cost.second 0) in
-    each-join is_on_line (codes "range(a,") _ (refl, (refl, (refl, (refl, (refl, (refl, (refl, (refl, tt))))))))
+    let range : Range = record { lo = bound_of lo; hi = bound_of hi } in
+    subst (Each is_on_line) (sym (range_parts range cost))
+    (each-join is_on_line (codes "range(a,") _ (refl, (refl, (refl, (refl, (refl, (refl, (refl, (refl, tt))))))))
     (each-join is_on_line (signed_decimal (bound_of lo)) (codes "," ++ (signed_decimal (bound_of hi) ++ (codes ")" ++ printed_addend cost))) (signed_on_line (bound_of lo) (bound_fits lo a.0))
-    (refl, each-join is_on_line (signed_decimal (bound_of hi)) (codes ")" ++ printed_addend cost) (signed_on_line (bound_of hi) (bound_fits hi b.0)) (refl, end)))
+    (refl, each-join is_on_line (signed_decimal (bound_of hi)) (codes ")" ++ printed_addend cost) (signed_on_line (bound_of hi) (bound_fits hi b.0)) (refl, end))))
 
 second_so : (n : ℕ) → printed_second (suc n) ≡ 44 ∷ decimal (suc n)
 second_so n = ap (λ t. cond t [] (44 ∷ decimal (suc n))) (not_zero n)

@@ -38,10 +38,13 @@ printed_amount cost = if cost.second == 0 then decimal cost.first else codes "("
 abbrev pub printed_addend : RuleCost → List ℕ
 printed_addend cost = if (cost.first == 0) && (cost.second == 0) then [] else codes "+" ++ printed_amount cost
 
+abbrev pub printed_range : Range → List ℕ
+printed_range range = codes "range(a," ++ (signed_decimal range.lo ++ (codes "," ++ (signed_decimal range.hi ++ codes ")")))
+
 -- the cost of a one-line rule: an amount, or a range with its addend
 abbrev pub printed_cost : RuleCost → Option Range → List ℕ
 printed_cost cost None = printed_amount cost
-printed_cost cost (Some range) = codes "range(a," ++ (signed_decimal range.lo ++ (codes "," ++ (signed_decimal range.hi ++ (codes ")" ++ printed_addend cost))))
+printed_cost cost (Some range) = printed_range range ++ printed_addend cost
 
 -- A rule's tail: that of a BURG rule where it gives itself a number, else a template and a cost.
 abbrev pub printed_tail : Option ℕ → Rule → List ℕ

@@ -162,17 +162,23 @@ fn put_addend(text: &mut Vec<u8>, cost: RuleCost) -> Result<(), NoMemory>
     put_amount(text, cost)
 }
 
+fn put_range(text: &mut Vec<u8>, range: Range) -> Result<(), NoMemory>
+    ensures { OnOk result (text.new.items ≡ text.old.items ++ spec.printed_range range) }
+{
+    put(text, b"range(a,")?;
+    put_signed(text, range.lo)?;
+    put(text, b",")?;
+    put_signed(text, range.hi)?;
+    put(text, b")")
+}
+
 fn put_cost(text: &mut Vec<u8>, cost: RuleCost, range: Option<Range>) -> Result<(), NoMemory>
     ensures { OnOk result (text.new.items ≡ text.old.items ++ spec.printed_cost cost range) }
 {
     let Some(range) = range else {
         return put_amount(text, cost);
     };
-    put(text, b"range(a,")?;
-    put_signed(text, range.lo)?;
-    put(text, b",")?;
-    put_signed(text, range.hi)?;
-    put(text, b")")?;
+    put_range(text, range)?;
     put_addend(text, cost)
 }
 
