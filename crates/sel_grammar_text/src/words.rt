@@ -29,12 +29,7 @@ pub struct WrittenAmount<'t> {
 pub enum WrittenCost<'t> {
     Absent,
     Amount(WrittenAmount<'t>),
-    Ranged(
-        usize,
-        TextWord<'t>,
-        TextWord<'t>,
-        Option<WrittenAmount<'t>>,
-    ),
+    Ranged(usize, TextWord<'t>, TextWord<'t>, Option<WrittenAmount<'t>>),
 }
 
 /// A rule's tail: the template's bytes from behind the quote on, with the cost, or the external
