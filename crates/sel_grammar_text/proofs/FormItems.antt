@@ -1,7 +1,7 @@
 -- The items that a text of the form is cut into.
 use Rattle.std.proofs.Common.{◌≡◌, ℕ, ◌+◌, ◌-◌, ◌<◌, List, [], ◌∷◌, ◌++◌, Some, None, Bool, true, false, length, refl, ap, sym, ◌∙◌, arith, cond, eqb, append_assoc, append-nil, map}
 use Rattle.sel_grammar_text.specs.Tokens.{Token, Name, Quoted, Equals, Open, Close, Comma}
-use Rattle.sel_grammar_text.specs.Form.{Patterns, no_patterns, pattern, Side, below, beside, pattern_tokens, CostForm, OneNumber, TwoNumbers, TailForm, OneLineForm, BurgForm, tail_tokens, RuleForm}
+use Rattle.sel_grammar_text.specs.Form.{Patterns, no_patterns, pattern, Side, below, beside, pattern_tokens, AmountForm, OneNumber, TwoNumbers, TailForm, OneLineForm, BurgForm, tail_tokens, RuleForm}
 use Rattle.sel_grammar_text.specs.Items.{Word, word, AmountText, TailText, OneLine, Burg}
 use Rattle.sel_grammar_text.specs.CostText.{cost_in}
 use Rattle.sel_grammar_text.proofs.Templates.{unequal}
@@ -210,7 +210,7 @@ tail_past ps (Comma ∷ xs) ys h = tail_past (tail_of ps) xs ys h.1
 tail_past ps (x ∷ xs) ys h = let w = h.0 in let z : ⊥ = cc in absurd z
 
 -- the amount of the form that begins at the places
-abbrev pub amount_text : List ℕ → CostForm → AmountText
+abbrev pub amount_text : List ℕ → AmountForm → AmountText
 amount_text ps (OneNumber c) = record { first = word (head_of ps) c; second = None }
 amount_text ps (TwoNumbers c d) = record { first = word (head_of ps) c; second = Some (word (head_of (tail_of (tail_of ps))) d) }
 

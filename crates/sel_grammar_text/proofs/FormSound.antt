@@ -2,7 +2,7 @@
 use Rattle.std.proofs.Common.{◌≡◌, ℕ, suc, zero, ◌+◌, ◌≤◌, List, [], ◌∷◌, ◌++◌, Some, None, Bool, true, false, refl, ap, ◌∙◌, arith, append_assoc, ◌⊎◌, inl, inr, cond}
 use Rattle.std.specs.List.{flat_map, AllByRecursion}
 use Rattle.sel_grammar_text.specs.Tokens.{Token, Name, Integer, Quoted, Start, Term, Percents, Code, Colon, Equals, Open, Close, Comma, Semi, End}
-use Rattle.sel_grammar_text.specs.Form.{Patterns, no_patterns, pattern, below, beside, pattern_tokens, DeclarationForm, StartForm, TermForm, CodeForm, entry_tokens, declaration_tokens, CostForm, OneNumber, TwoNumbers, TailForm, OneLineForm, BurgForm, tail_tokens, RuleForm, rule_tokens, is_small, IsSmall, IsDeclaration, IsTail, starts, IsText}
+use Rattle.sel_grammar_text.specs.Form.{Patterns, no_patterns, pattern, below, beside, pattern_tokens, DeclarationForm, StartForm, TermForm, CodeForm, entry_tokens, declaration_tokens, AmountForm, OneNumber, TwoNumbers, TailForm, OneLineForm, BurgForm, tail_tokens, RuleForm, rule_tokens, is_small, IsSmall, IsDeclaration, IsTail, starts, IsText}
 use Rattle.sel_grammar_text.specs.declared.form.State.{State}
 use Rattle.sel_grammar_text.specs.declared.form.State.TheVariants.{Declaring, Starting, Entering, Equating, Ruling, LeftName, Wanted, Named, Closed, External, Numbered, Pricing, Priced, Pairing, Paired, Finishing, Ended}
 use Rattle.sel_grammar_text.specs.Machine.{after_pattern, declare, step, go, run, begin}
@@ -28,13 +28,13 @@ abbrev pub Names : ℕ → List Token → Type 0
 Names d ts = (n : List ℕ) × (us : List Token) × (ts ≡ Name n ∷ us) × Below d us
 
 -- a cost behind its parenthesis, up to the semicolon and what follows
-abbrev pub priced : CostForm → List Token → List Token
+abbrev pub priced : AmountForm → List Token → List Token
 priced (OneNumber c) us = Integer c ∷ Close ∷ Semi ∷ us
 priced (TwoNumbers c d) us = Integer c ∷ Comma ∷ Integer d ∷ Close ∷ Semi ∷ us
 
 -- what stands behind the external number
 abbrev pub AfterNumber : List Token → Type 0
-AfterNumber ts = (us : List Token) × Rules us × ((ts ≡ Semi ∷ us) ⊎ ((c : CostForm) × (ts ≡ Open ∷ priced c us)))
+AfterNumber ts = (us : List Token) × Rules us × ((ts ≡ Semi ∷ us) ⊎ ((c : AmountForm) × (ts ≡ Open ∷ priced c us)))
 
 abbrev pub count : Bool → ℕ
 count true = 1
@@ -60,7 +60,7 @@ Completes (Named d) ts = Below d ts
 Completes (Closed d) ts = AfterPattern d ts
 Completes External ts = (e : List ℕ) × (us : List Token) × IsSmall e × (ts ≡ Integer e ∷ us) × AfterNumber us
 Completes Numbered ts = AfterNumber ts
-Completes Pricing ts = (c : CostForm) × (us : List Token) × (ts ≡ priced c us) × Rules us
+Completes Pricing ts = (c : AmountForm) × (us : List Token) × (ts ≡ priced c us) × Rules us
 Completes Priced ts = (us : List Token) × Rules us × ((ts ≡ Close ∷ Semi ∷ us) ⊎ ((d : List ℕ) × (ts ≡ Comma ∷ Integer d ∷ Close ∷ Semi ∷ us)))
 Completes Pairing ts = (d : List ℕ) × (us : List Token) × (ts ≡ Integer d ∷ Close ∷ Semi ∷ us) × Rules us
 Completes Paired ts = (us : List Token) × (ts ≡ Close ∷ Semi ∷ us) × Rules us
@@ -76,7 +76,7 @@ glue_beside x y z ts us rest rest' k m e f g = simp (e, f, g, append_assoc)
 glue_below : (x y z : Token) (ts us rest rest' k m : List Token) → ts ≡ y ∷ us → us ≡ k ++ rest → rest ≡ m ++ (z ∷ rest') → x ∷ ts ≡ x ∷ y ∷ ((k ++ (m ++ (z ∷ []))) ++ rest')
 glue_below x y z ts us rest rest' k m e f g = simp (e, f, g, append_assoc)
 
-burg_glue : (e : List ℕ) (c : CostForm) (us : List Token) → Equals ∷ Integer e ∷ Open ∷ priced c us ≡ tail_tokens (BurgForm e (Some c)) ++ us
+burg_glue : (e : List ℕ) (c : AmountForm) (us : List Token) → Equals ∷ Integer e ∷ Open ∷ priced c us ≡ tail_tokens (BurgForm e (Some c)) ++ us
 burg_glue e (OneNumber c) us = refl
 burg_glue e (TwoNumbers c d) us = refl
 

@@ -11,7 +11,7 @@ use Rattle.sel_grammar.specs.declared.grammar.Rule.{Rule}
 use Rattle.sel_grammar.specs.declared.grammar.RuleCost.{RuleCost}
 use Rattle.sel_grammar.specs.Names.{is_name_byte}
 use Rattle.sel_grammar_text.specs.Tokens.{is_on_line, Token, Quoted, Integer, Comma, Close, Semi}
-use Rattle.sel_grammar_text.specs.Form.{CostForm, OneNumber, TwoNumbers, TailForm, OneLineForm, BurgForm, tail_tokens, IsTail}
+use Rattle.sel_grammar_text.specs.Form.{AmountForm, OneNumber, TwoNumbers, TailForm, OneLineForm, BurgForm, tail_tokens, IsTail}
 use Rattle.sel_grammar_text.specs.Items.{Word, word, AmountText, CostText, NoCost, Amount, Ranged, TailText, OneLine, Burg}
 use Rattle.sel_grammar_text.specs.Blanks.{skip}
 use Rattle.sel_grammar_text.specs.CostText.{cost_in, wrong_cost}
@@ -35,7 +35,7 @@ TailGood (OneLine w c) = IsReadAgain w.bytes (printed_template (template_of w.by
 TailGood (Burg e c) = (digits_value 10 e.bytes ≤ greatest_external) × (large_amount_if_any c ≡ None)
 
 -- the form of a cost that is printed in parentheses
-abbrev pub burg_cost : ℕ → ℕ → CostForm
+abbrev pub burg_cost : ℕ → ℕ → AmountForm
 burg_cost m zero = OneNumber (decimal m)
 burg_cost m (suc n) = TwoNumbers (decimal m) (decimal (suc n))
 

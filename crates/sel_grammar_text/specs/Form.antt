@@ -36,15 +36,15 @@ declaration_tokens (TermForm entries) = Term ∷ entry_tokens entries
 declaration_tokens (CodeForm n) = Code n ∷ []
 
 -- the digits of a cost: of one number, or of two
-pub data CostForm : Type 0 where
-  OneNumber : List ℕ → CostForm
-  TwoNumbers : List ℕ → List ℕ → CostForm
+pub data AmountForm : Type 0 where
+  OneNumber : List ℕ → AmountForm
+  TwoNumbers : List ℕ → List ℕ → AmountForm
 
 -- A rule's tail: a template's bytes with what stands behind it on the line, or the digits of the external number and of
 -- the cost.
 pub data TailForm : Type 0 where
   OneLineForm : List ℕ → List ℕ → TailForm
-  BurgForm : List ℕ → Option CostForm → TailForm
+  BurgForm : List ℕ → Option AmountForm → TailForm
 
 abbrev pub tail_tokens : TailForm → List Token
 tail_tokens (OneLineForm inside behind) = Quoted inside behind ∷ []
