@@ -1,8 +1,7 @@
 -- Which spots belong to no item yet, by the state behind them.
-use Rattle.std.proofs.Common.{◌≡◌, ℕ, suc, zero, ◌+◌, ◌≤◌, ◌<◌, ◌⊎◌, inl, inr, List, [], ◌∷◌, ◌++◌, Option, Some, None, Bool, true, false, refl, ap, sym, ◌∙◌, subst, arith, length, length-append, cond}
-use Rattle.sel_grammar_text.specs.Tokens.{Token, Name, Integer, Quoted, Unclosed, Start, Term, Percents, Code, OpenCode, Colon, Equals, Open, Close, Comma, Semi, Bad, End}
+use Rattle.std.proofs.Common.{◌≡◌, ℕ, suc, zero, ◌+◌, ◌≤◌, ◌⊎◌, inl, inr, List, [], ◌∷◌, ◌++◌, Option, Some, None, Bool, true, false, refl, ap, sym, ◌∙◌, subst, arith, length, length-append, cond}
+use Rattle.sel_grammar_text.specs.Tokens.{Token, Name, Integer, Quoted, Start, Term, Percents, Code, Colon, Equals, Open, Close, Comma, Semi, End}
 use Rattle.sel_grammar_text.specs.Form.{is_small}
-use Rattle.sel_grammar_text.specs.Items.{Item}
 use Rattle.sel_grammar_text.specs.Spots.{Spot}
 use Rattle.sel_grammar_text.specs.Cutting.{ends, is_start, is_equals, item_of}
 use Rattle.sel_grammar_text.specs.Machine.{after_pattern, declare, step, is_border}

@@ -1,7 +1,7 @@
 -- The kids of a pattern's names are no more than its opening parentheses and commas.
-use Rattle.std.proofs.Common.{◌≡◌, ℕ, suc, zero, ◌+◌, ◌-◌, ◌≤◌, List, [], ◌∷◌, Bool, true, false, refl, ap, sym, ◌∙◌, subst, arith, cond, eqb}
+use Rattle.std.proofs.Common.{◌≡◌, ℕ, suc, zero, ◌+◌, ◌-◌, ◌≤◌, List, [], ◌∷◌, false, refl, arith, eqb}
 use Rattle.sel_grammar_text.specs.Tokens.{Token, Name, Quoted, Equals, Open, Close, Comma}
-use Rattle.sel_grammar_text.specs.Items.{Word, word}
+use Rattle.sel_grammar_text.specs.Items.{Word}
 use Rattle.sel_grammar_text.specs.Spots.{Spot}
 use Rattle.sel_grammar_text.specs.Cutting.{commas, kids_behind, pattern_in}
 

@@ -4,7 +4,7 @@ use Rattle.std.specs.List.{prefix_len}
 use Rattle.std.specs.Char.{is_ascii_digit}
 use Rattle.sel_grammar.specs.Names.{is_letter, is_name_byte}
 use Rattle.sel_grammar_text.specs.Blanks.{skip}
-use Rattle.sel_grammar_text.specs.CostText.{CostToken, CostName, Digits, Negative, Single, cost_width, cost_token, begins_with_digit, cost_tokens_to, cost_tokens}
+use Rattle.sel_grammar_text.specs.CostText.{CostToken, Negative, Single, cost_width, cost_token, begins_with_digit, cost_tokens_to, cost_tokens}
 use Rattle.sel_grammar_text.proofs.Blanks.{skip_short}
 
 choose : (P : CostToken → Type 0) (b : Bool) (x y : CostToken) → (b ≡ true → P x) → (b ≡ false → P y) → P (cond b x y)

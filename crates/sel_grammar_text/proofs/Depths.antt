@@ -1,9 +1,9 @@
 -- How deep a token leads, and where the end does.
-use Rattle.std.proofs.Common.{◌≡◌, ℕ, suc, zero, ◌+◌, ◌≤◌, List, Option, Some, None, Bool, true, false, refl, ap, sym, ◌∙◌, subst, arith, cond}
+use Rattle.std.proofs.Common.{◌≡◌, ℕ, suc, zero, ◌+◌, ◌≤◌, Option, Some, None, Bool, true, false, refl, subst, arith, cond}
 use Rattle.sel_grammar_text.specs.Tokens.{Token, Name, Integer, Quoted, Start, Term, Percents, Code, Colon, Equals, Open, Close, Comma, Semi, End}
 use Rattle.sel_grammar_text.specs.Form.{is_small}
 use Rattle.sel_grammar_text.specs.FormFaults.{is_integer}
-use Rattle.sel_grammar_text.specs.Machine.{after_pattern, declare, step, open_count, is_border, wants_cost}
+use Rattle.sel_grammar_text.specs.Machine.{after_pattern, declare, step, open_count, is_border}
 use Rattle.sel_grammar_text.specs.declared.form.State.{State}
 use Rattle.sel_grammar_text.specs.declared.form.State.TheVariants.{Declaring, Starting, Entering, Equating, Ruling, LeftName, Wanted, Named, Closed, External, Numbered, Pricing, Priced, Pairing, Paired, Finishing, Ended}
 

@@ -1,5 +1,5 @@
 -- Small texts, their faults, and what they say.
-use Rattle.std.proofs.Common.{◌≡◌, ℕ, List, [], ◌∷◌, ◌++◌, Option, Some, None, Bool, true, false, refl, ◌+◌}
+use Rattle.std.proofs.Common.{◌≡◌, ℕ, List, [], ◌∷◌, ◌++◌, Option, Some, None, true, false, refl, ◌+◌}
 use Rattle.std.specs.Prelude.{codes}
 use Rattle.sel_grammar.specs.Limits as limits
 use Rattle.sel_grammar.specs.declared.grammar.Pattern.{Leaf, Nullary, Binary}

@@ -1,18 +1,18 @@
 -- The numbers among the words of an item consist of digits.
-use Rattle.std.proofs.Common.{◌≡◌, ℕ, suc, zero, ◌+◌, ◌-◌, ◌<◌, ◌≤◌, ◌^◌, List, [], ◌∷◌, ◌++◌, Option, Some, None, Bool, true, false, length, refl, ap, sym, ◌∙◌, arith, cond, eqb, ◌&&◌, drop, take, append_assoc}
+use Rattle.std.proofs.Common.{◌≡◌, ℕ, suc, zero, ◌+◌, ◌-◌, ◌<◌, ◌^◌, List, [], ◌∷◌, ◌++◌, Option, Some, None, Bool, true, false, length, refl, ap, sym, ◌∙◌, arith, cond, eqb, ◌&&◌, drop, take, append_assoc}
 use Rattle.std.specs.Prelude.{bytes_eq, codes}
 use Rattle.std.specs.List.{AllByRecursion, prefix_len}
 use Rattle.std.specs.Char.{is_ascii_digit}
 use Rattle.std.specs.Str.Parse.{AllDigits}
 use Rattle.sel_grammar.specs.Names.{is_letter}
 use Rattle.sel_grammar_text.specs.Blanks.{skip}
-use Rattle.sel_grammar_text.specs.Tokens.{Token, Name, Integer, Quoted, Start, Percents, Code, Equals, width, token_of}
+use Rattle.sel_grammar_text.specs.Tokens.{Token, Name, Integer, Quoted, Start, Percents, Code, Equals, width}
 use Rattle.sel_grammar_text.specs.Spots.{Spot, spot, first, behind}
-use Rattle.sel_grammar_text.specs.Items.{Word, word, AmountText, CostText, NoCost, Amount, Ranged, TailText, OneLine, Burg, Item}
+use Rattle.sel_grammar_text.specs.Items.{Word, word, CostText, Amount}
 use Rattle.sel_grammar_text.specs.Checks.{begins_with_minus}
 use Rattle.sel_grammar_text.specs.CostText.{CostToken, CostName, Digits, Negative, Single, begins_with_digit, cost_token, cost_width, cost_tokens_to, cost_tokens, is_single, is_word, behind_token, and_then, bound_in, read_bound, read_number, read_digits, at_end, read_pair, read_amount, read_addend, read_range, read_cost, cost_in}
-use Rattle.sel_grammar_text.specs.Cutting.{digits_in, is_equals, numbers_in, amount_of, burg_of, or_no_cost, tail_in, entry_in, named_item, start_item, item_of, pattern_in}
-use Rattle.sel_grammar_text.specs.ItemNumbers.{IsNumber, IsNumberIfAny, HasNumbersInAmount, HasNumbersIfAny, IsBound, IsWithin, HasNumbersInCost, HasNumbersInTail, HasNumbers, HasDigits, IsSpot}
+use Rattle.sel_grammar_text.specs.Cutting.{digits_in, is_equals, numbers_in, amount_of, burg_of, or_no_cost, tail_in, entry_in, named_item, start_item, item_of}
+use Rattle.sel_grammar_text.specs.ItemNumbers.{IsNumber, HasNumbersInAmount, HasNumbersIfAny, IsBound, HasNumbersInCost, HasNumbersInTail, HasNumbers, HasDigits, IsSpot}
 use Rattle.sel_grammar_text.proofs.DigitTokens.{digits_front}
 
 choose : {X : Type 0} (P : X → Type 0) (b : Bool) (x y : X) → P x → P y → P (cond b x y)

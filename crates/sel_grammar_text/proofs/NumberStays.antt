@@ -1,5 +1,5 @@
 -- The number of a name stays where names are added behind it.
-use Rattle.std.proofs.Common.{◌≡◌, ℕ, suc, ◌+◌, ◌<◌, List, [], ◌∷◌, ◌++◌, Bool, true, false, length, refl, ap, sym, ◌∙◌, arith, cond, eqb, ◌||◌, ◌&&◌, map}
+use Rattle.std.proofs.Common.{◌≡◌, ℕ, ◌+◌, List, [], ◌∷◌, ◌++◌, Bool, true, false, refl, ap, ◌∙◌, arith, cond, eqb, ◌||◌, ◌&&◌, map}
 use Rattle.std.specs.Prelude.{not, bytes_eq}
 use Rattle.std.proofs.lemmas.Slice.Eq.{bytes_eq-Decides}
 use Rattle.sel_grammar_text.specs.declared.pattern.PatternName.TheVariants.{Operator, Nonterminal}
@@ -8,7 +8,6 @@ use Rattle.sel_grammar_text.specs.Items.{Word, RuleText}
 use Rattle.sel_grammar_text.specs.Names.{number_of, is_among, leaves, nonterminal_words, with_words}
 use Rattle.sel_grammar_text.specs.Patterns.{numbered, built}
 use Rattle.sel_grammar_text.specs.Meaning.{parts_of_tail, cost_of, range_of, external_of}
-use Rattle.sel_grammar.specs.declared.grammar.Rule.{Rule}
 use Rattle.sel_grammar_text.specs.Tables.{rule_at}
 
 pub among_more : (names : List (List ℕ)) (name more : List ℕ) → is_among names name ≡ true → is_among (names ++ (more ∷ [])) name ≡ true

@@ -1,12 +1,9 @@
 -- The numbers that items give themselves, by the state behind their tokens.
-use Rattle.std.proofs.Common.{◌≡◌, ℕ, suc, zero, ◌+◌, ◌≤◌, List, [], ◌∷◌, ◌++◌, Option, Some, None, Bool, true, false, refl, ap, sym, ◌∙◌, subst, arith, append_assoc, append-nil, cond}
-use Rattle.std.specs.Prelude.{nat_le}
+use Rattle.std.proofs.Common.{◌≡◌, ℕ, suc, zero, List, [], ◌∷◌, ◌++◌, Option, Some, None, Bool, true, false, refl, ap, sym, ◌∙◌, subst, arith, append_assoc, cond}
 use Rattle.std.specs.List.{AllByRecursion}
-use Rattle.std.specs.Str.Parse.{digits_value}
-use Rattle.sel_grammar.specs.Limits.{greatest_external}
-use Rattle.sel_grammar_text.specs.Tokens.{Token, Name, Integer, Quoted, Unclosed, Start, Term, Percents, Code, OpenCode, Colon, Equals, Open, Close, Comma, Semi, Bad, End}
+use Rattle.sel_grammar_text.specs.Tokens.{Token, Name, Integer, Quoted, Start, Term, Percents, Code, Colon, Equals, Open, Close, Comma, Semi, End}
 use Rattle.sel_grammar_text.specs.Form.{is_small}
-use Rattle.sel_grammar_text.specs.Items.{Word, word, TailText, OneLine, Burg, RuleText, Item, StartItem, EntryItem, CodeItem, PercentsItem, RuleItem}
+use Rattle.sel_grammar_text.specs.Items.{Word, word, TailText, RuleText, Item, StartItem, EntryItem, CodeItem, PercentsItem, RuleItem}
 use Rattle.sel_grammar_text.specs.ItemNumbers.{HasExternal, HasExternalInTail, IsExternal}
 use Rattle.sel_grammar_text.specs.Names.{rules}
 use Rattle.sel_grammar_text.specs.Tables.{StandsRight}

@@ -20,7 +20,7 @@ use Rattle.sel_grammar_text.specs.GrammarText.{HasFault, IsWhole}
 use Rattle.sel_grammar_text.specs.Machine.{step, run, go, begin}
 use Rattle.sel_grammar_text.specs.declared.fault.Fault.{Fault}
 use Rattle.sel_grammar_text.specs.declared.form.State.{State}
-use Rattle.sel_grammar_text.specs.declared.form.State.TheVariants.{Declaring, Wanted, Named, Closed, Numbered, Pricing, Priced, Pairing, Paired, Finishing, Ended}
+use Rattle.sel_grammar_text.specs.declared.form.State.TheVariants.{Declaring, Wanted, Named, Closed, Numbered, Pricing, Priced, Pairing, Paired, Ended}
 use Rattle.sel_grammar_text.proofs.FormSound.{run-append}
 use Rattle.sel_grammar_text.proofs.FormComplete.{complete, goes_on, stops}
 use Rattle.sel_grammar_text.proofs.Decided.{undecided, no_unclosed}

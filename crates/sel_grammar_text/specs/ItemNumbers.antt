@@ -1,5 +1,5 @@
 -- What an item's words are: numbers, and a place for a template.
-use Rattle.std.specs.Prelude.{ℕ, ◌+◌, ◌^◌, ◌<◌, ◌≤◌, Option, Some, None, if◌then◌else◌, drop, length}
+use Rattle.std.specs.Prelude.{◌+◌, ◌^◌, ◌<◌, ◌≤◌, Option, Some, None, if◌then◌else◌, drop, length}
 use Rattle.std.specs.Str.Parse.{digits_value, AllDigits}
 use Rattle.sel_grammar.specs.Limits.{greatest_external}
 use Rattle.sel_grammar_text.specs.Items.{Word, AmountText, CostText, NoCost, Amount, Ranged, TailText, OneLine, Burg, Item, EntryItem, RuleItem}
