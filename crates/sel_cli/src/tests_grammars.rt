@@ -116,6 +116,66 @@ fn ties_go_to_the_lesser_list_and_patterns_may_be_deep(rt: HostRuntime) -> Resul
     Ok(())
 }
 
+// The first number decides, and the second one breaks its ties.
+#[test]
+fn covers_by_costs_of_two_numbers(rt: HostRuntime) -> Result<(), Fail> {
+    let alloc = rt.alloc();
+    let one = Case {
+        forest: "X",
+        ..PLAIN
+    };
+    let cases = [
+        // (1,3) by rule 1, and (0,1) with (1,1) by 2 and 3.
+        Case {
+            grammar: "%term X=1\n%%\na: X \"\" (1,3)\na: b \"\" (0,1)\nb: X \"\" (1,1)\n",
+            out: "; tree 1 cost 1,2\n2 3\n",
+            ..one
+        },
+        Case {
+            grammar: "%term X=1\n%%\na: X \"\" (1,0)\na: X \"\" (0,65535)\n",
+            out: "; tree 1 cost 0,65535\n2\n",
+            ..one
+        },
+        // The circle of rules 2 and 3 costs (0,1), and so it is no fault.
+        Case {
+            grammar: "%term X=1\n%%\na: X \"\"\na: b \"\" (0,1)\nb: a \"\"\n",
+            out: "; tree 1 cost 0,0\n1\n",
+            ..one
+        },
+        // Sums go part by part; a cost of one number has the second number 0.
+        Case {
+            grammar: "%term X=1 U=2\n%%\ns: U(s) = 7 (1,2);\ns: X \"\" range(a,0,1)+(0,3)\ns: X \"\" 4\n",
+            forest: "U(U(X:1))\nU(X:2)\nX",
+            out: "; tree 1 cost 2,7\n1 1 2\n; tree 2 cost 5,2\n1 3\n; tree 3 cost 4,0\n3\n",
+            ..PLAIN
+        },
+        // Each second number is 0, so none is written.
+        Case {
+            grammar: "%term X=1\n%%\na: X \"\" (2,0)\n",
+            out: "; tree 1 cost 2\n1\n",
+            ..one
+        },
+        // Three numbers are no cost.
+        Case {
+            grammar: "%term X=1 U=2 P=3\n%%\na: X = 1 (1,2,3) ;\n",
+            out: "",
+            err: "g:3:10: grammar fault 7 CostForm\n",
+            status: refused(7, 3, 10),
+            ..one
+        },
+        Case {
+            words: &["print", "g"],
+            grammar: "%term X=1\n%%\na: X \"\" range(a,0,1)+(0,2)\n",
+            out: "%start a\n%term X=1\n%%\na: X \"\" range(a,0,1)+(0,2)\n",
+            ..PLAIN
+        },
+    ];
+    for case in &cases {
+        ends(&rt, alloc, case)?;
+    }
+    Ok(())
+}
+
 // Either of two chains of rules may cover the row; the one whose rules cost more never wins.
 #[test]
 fn a_long_row_takes_the_cheaper_chain(rt: HostRuntime) -> Result<(), Fail> {

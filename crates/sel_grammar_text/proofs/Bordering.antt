@@ -1,13 +1,12 @@
 -- Which spots belong to no item yet, by the state behind them.
-use Rattle.std.proofs.Common.{◌≡◌, ℕ, suc, zero, ◌+◌, ◌≤◌, ◌<◌, ◌⊎◌, inl, inr, List, [], ◌∷◌, ◌++◌, Option, Some, None, Bool, true, false, refl, ap, sym, ◌∙◌, subst, arith, length, length-append, cond}
-use Rattle.sel_grammar_text.specs.Tokens.{Token, Name, Integer, Quoted, Unclosed, Start, Term, Percents, Code, OpenCode, Colon, Equals, Open, Close, Comma, Semi, Bad, End}
+use Rattle.std.proofs.Common.{◌≡◌, ℕ, suc, zero, ◌+◌, ◌≤◌, ◌⊎◌, inl, inr, List, [], ◌∷◌, ◌++◌, Option, Some, None, Bool, true, false, refl, ap, sym, ◌∙◌, subst, arith, length, length-append, cond}
+use Rattle.sel_grammar_text.specs.Tokens.{Token, Name, Integer, Quoted, Start, Term, Percents, Code, Colon, Equals, Open, Close, Comma, Semi, End}
 use Rattle.sel_grammar_text.specs.Form.{is_small}
-use Rattle.sel_grammar_text.specs.Items.{Item}
 use Rattle.sel_grammar_text.specs.Spots.{Spot}
 use Rattle.sel_grammar_text.specs.Cutting.{ends, is_start, is_equals, item_of}
 use Rattle.sel_grammar_text.specs.Machine.{after_pattern, declare, step, is_border}
 use Rattle.sel_grammar_text.specs.declared.form.State.{State}
-use Rattle.sel_grammar_text.specs.declared.form.State.TheVariants.{Declaring, Starting, Entering, Equating, Ruling, LeftName, Wanted, Named, Closed, External, Numbered, Pricing, Priced, Finishing, Ended}
+use Rattle.sel_grammar_text.specs.declared.form.State.TheVariants.{Declaring, Starting, Entering, Equating, Ruling, LeftName, Wanted, Named, Closed, External, Numbered, Pricing, Priced, Pairing, Paired, Finishing, Ended}
 
 -- one spot, which is `%start` or not
 abbrev pub IsOne : Bool → List Spot → Type 0
@@ -28,6 +27,8 @@ Begun External left = 3 ≤ length left
 Begun Numbered left = 3 ≤ length left
 Begun Pricing left = 3 ≤ length left
 Begun Priced left = 3 ≤ length left
+Begun Pairing left = 3 ≤ length left
+Begun Paired left = 3 ≤ length left
 Begun Finishing left = 3 ≤ length left
 Begun Ended left = Unit {0}
 
@@ -159,6 +160,9 @@ step_next Numbered Open at left h = goes left Open at Pricing refl (longer 3 lef
 step_next Numbered Semi at left h = ended left Semi at Ruling refl (inl (semi_ends left))
 step_next Pricing (Integer c) at left h = goes left (Integer c) at Priced refl (longer 3 left (at_spot (Integer c) at) h) (integer_goes left c h)
 step_next Priced Close at left h = goes left Close at Finishing refl (longer 3 left (at_spot Close at) h) (close_goes left)
+step_next Priced Comma at left h = goes left Comma at Pairing refl (longer 3 left (at_spot Comma at) h) (comma_goes left)
+step_next Pairing (Integer c) at left h = goes left (Integer c) at Paired refl (longer 3 left (at_spot (Integer c) at) h) (integer_goes left c h)
+step_next Paired Close at left h = goes left Close at Finishing refl (longer 3 left (at_spot Close at) h) (close_goes left)
 step_next Finishing Semi at left h = ended left Semi at Ruling refl (inl (semi_ends left))
 step_next _ _ at left h = tt
 

@@ -1,7 +1,7 @@
 -- The kids of a pattern's names are no more than its opening parentheses and commas.
-use Rattle.std.proofs.Common.{◌≡◌, ℕ, suc, zero, ◌+◌, ◌-◌, ◌≤◌, List, [], ◌∷◌, Bool, true, false, refl, ap, sym, ◌∙◌, subst, arith, cond, eqb}
+use Rattle.std.proofs.Common.{◌≡◌, ℕ, suc, zero, ◌+◌, ◌-◌, ◌≤◌, List, [], ◌∷◌, false, refl, arith, eqb}
 use Rattle.sel_grammar_text.specs.Tokens.{Token, Name, Quoted, Equals, Open, Close, Comma}
-use Rattle.sel_grammar_text.specs.Items.{Word, word}
+use Rattle.sel_grammar_text.specs.Items.{Word}
 use Rattle.sel_grammar_text.specs.Spots.{Spot}
 use Rattle.sel_grammar_text.specs.Cutting.{commas, kids_behind, pattern_in}
 
@@ -15,7 +15,7 @@ abbrev pub joints : List Spot → ℕ
 joints [] = 0
 joints (s ∷ spots) = elim s.token as (λ _. ℕ) [ Open ↦ 1 + joints spots | Comma ↦ 1 + joints spots | Quoted inside line ↦ 0 | Equals ↦ 0 | _ ↦ joints spots ]
 
--- no comma stands in the tail
+-- commas stand in the tail only within parentheses of its own
 abbrev pub HasPlainTail : List Spot → Type 0
 HasPlainTail [] = Unit {0}
 HasPlainTail (s ∷ spots) = elim s.token as (λ _. Type 0) [ Quoted inside line ↦ ((d : ℕ) → commas d spots ≡ 0) | Equals ↦ ((d : ℕ) → commas d spots ≡ 0) | _ ↦ HasPlainTail spots ]

@@ -1,5 +1,5 @@
 -- The Integers of a list of costs one by one.
-use Rattle.std.proofs.Common.{◌≡◌, ℕ, suc, zero, ◌≤◌, ◌<◌, List, Option, Some, None, Bool, true, false, length, refl, ap, sym, ◌∙◌, arith}
+use Rattle.std.proofs.Common.{◌≡◌, ℕ, suc, zero, ◌<◌, List, Option, Some, None, Bool, length, refl, ap, ◌∙◌, arith}
 use Rattle.sel_grammar_text.specs.FormFaults.{behind_further, closes_to, closes, is_close, token_in}
 
 -- whether the list closes, by what stands behind a further Integer

@@ -4,14 +4,14 @@ use Rattle.std.specs.List.{prefix_len}
 use Rattle.std.specs.Char.{is_ascii_digit}
 use Rattle.sel_grammar.specs.Names.{is_letter, is_name_byte}
 use Rattle.sel_grammar_text.specs.Blanks.{skip}
-use Rattle.sel_grammar_text.specs.CostText.{CostToken, CostName, Digits, Negative, Single, cost_width, cost_token, begins_with_digit, cost_tokens_to, cost_tokens}
+use Rattle.sel_grammar_text.specs.CostText.{CostToken, Negative, Single, cost_width, cost_token, begins_with_digit, cost_tokens_to, cost_tokens}
 use Rattle.sel_grammar_text.proofs.Blanks.{skip_short}
 
 choose : (P : CostToken → Type 0) (b : Bool) (x y : CostToken) → (b ≡ true → P x) → (b ≡ false → P y) → P (cond b x y)
 choose P true x y f g = f refl
 choose P false x y f g = g refl
 
-abbrev IsWide : CostToken → Type 0
+abbrev pub IsWide : CostToken → Type 0
 IsWide t = 0 < cost_width t
 
 take_wide : (m b : ℕ) (bs : List ℕ) → 0 < length (take (1 + m) (b ∷ bs))
@@ -24,7 +24,7 @@ or_left : (a b : Bool) → a ≡ true → (a || b) ≡ true
 or_left true b h = refl
 or_left false b h = cc
 
-token_wide : (b : ℕ) (more : List ℕ) → IsWide (cost_token b more)
+pub token_wide : (b : ℕ) (more : List ℕ) → IsWide (cost_token b more)
 token_wide b more =
     choose IsWide (is_letter b) _ _ (λ h. run_wide is_name_byte b more (or_left (is_letter b) (is_ascii_digit b) h))
     (λ _. choose IsWide (is_ascii_digit b) _ _ (λ h. run_wide is_ascii_digit b more h)

@@ -13,7 +13,7 @@ use Rattle.sel_grammar_text.specs.FormDecision.{accepted_fault, judged, open_cod
 use Rattle.sel_grammar_text.specs.Machine.{after_pattern, step}
 use Rattle.sel_grammar_text.specs.declared.fault.Fault.{Fault}
 use Rattle.sel_grammar_text.specs.declared.form.State.{State}
-use Rattle.sel_grammar_text.specs.declared.form.State.TheVariants.{Declaring, Starting, Entering, Equating, Ruling, LeftName, Wanted, Named, Closed, External, Numbered, Pricing, Priced, Finishing, Ended}
+use Rattle.sel_grammar_text.specs.declared.form.State.TheVariants.{Declaring, Starting, Entering, Equating, Ruling, LeftName, Wanted, Named, Closed, External, Numbered, Pricing, Priced, Pairing, Paired, Finishing, Ended}
 
 open_code_is : (t : Token) → is_open_code t ≡ true → t ≡ OpenCode
 open_code_is OpenCode h = refl
@@ -37,6 +37,8 @@ no_open_code External = refl
 no_open_code Numbered = refl
 no_open_code Pricing = refl
 no_open_code Priced = refl
+no_open_code Pairing = refl
+no_open_code Paired = refl
 no_open_code Finishing = refl
 no_open_code Ended = refl
 
@@ -115,6 +117,8 @@ no_unclosed External = refl
 no_unclosed Numbered = refl
 no_unclosed Pricing = refl
 no_unclosed Priced = refl
+no_unclosed Pairing = refl
+no_unclosed Paired = refl
 no_unclosed Finishing = refl
 no_unclosed Ended = refl
 

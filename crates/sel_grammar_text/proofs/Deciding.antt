@@ -1,5 +1,5 @@
 -- The fault of form of a token, by what is tested.
-use Rattle.std.proofs.Common.{◌≡◌, ℕ, List, [], Option, Some, None, Bool, true, false, refl, ap, sym, ◌∙◌}
+use Rattle.std.proofs.Common.{◌≡◌, ℕ, List, [], Some, None, Bool, true, false, refl, ap, sym, ◌∙◌}
 use Rattle.sel_grammar.specs.Limits as limits
 use Rattle.sel_grammar_text.specs.Tokens.{Token, Quoted, Code}
 use Rattle.sel_grammar_text.specs.Spots.{Spot}

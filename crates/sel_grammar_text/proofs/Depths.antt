@@ -1,11 +1,11 @@
 -- How deep a token leads, and where the end does.
-use Rattle.std.proofs.Common.{◌≡◌, ℕ, suc, zero, ◌+◌, ◌≤◌, List, Option, Some, None, Bool, true, false, refl, ap, sym, ◌∙◌, subst, arith, cond}
+use Rattle.std.proofs.Common.{◌≡◌, ℕ, suc, zero, ◌+◌, ◌≤◌, Option, Some, None, Bool, true, false, refl, subst, arith, cond}
 use Rattle.sel_grammar_text.specs.Tokens.{Token, Name, Integer, Quoted, Start, Term, Percents, Code, Colon, Equals, Open, Close, Comma, Semi, End}
 use Rattle.sel_grammar_text.specs.Form.{is_small}
 use Rattle.sel_grammar_text.specs.FormFaults.{is_integer}
-use Rattle.sel_grammar_text.specs.Machine.{after_pattern, declare, step, open_count, is_border, wants_cost}
+use Rattle.sel_grammar_text.specs.Machine.{after_pattern, declare, step, open_count, is_border}
 use Rattle.sel_grammar_text.specs.declared.form.State.{State}
-use Rattle.sel_grammar_text.specs.declared.form.State.TheVariants.{Declaring, Starting, Entering, Equating, Ruling, LeftName, Wanted, Named, Closed, External, Numbered, Pricing, Priced, Finishing, Ended}
+use Rattle.sel_grammar_text.specs.declared.form.State.TheVariants.{Declaring, Starting, Entering, Equating, Ruling, LeftName, Wanted, Named, Closed, External, Numbered, Pricing, Priced, Pairing, Paired, Finishing, Ended}
 
 abbrev depth_of : Option State → ℕ
 depth_of None = 0
@@ -48,6 +48,9 @@ step_depth_of Numbered Open = omega arith
 step_depth_of Numbered Semi = omega arith
 step_depth_of Pricing (Integer c) = omega arith
 step_depth_of Priced Close = omega arith
+step_depth_of Priced Comma = omega arith
+step_depth_of Pairing (Integer c) = omega arith
+step_depth_of Paired Close = omega arith
 step_depth_of Finishing Semi = omega arith
 step_depth_of _ _ = omega arith
 
@@ -82,6 +85,8 @@ step_end_of External = tt
 step_end_of Numbered = tt
 step_end_of Pricing = tt
 step_end_of Priced = tt
+step_end_of Pairing = tt
+step_end_of Paired = tt
 step_end_of Finishing = tt
 step_end_of Ended = tt
 
@@ -132,6 +137,9 @@ step_came_of Numbered Open = tt
 step_came_of Numbered Semi = tt
 step_came_of Pricing (Integer c) = tt
 step_came_of Priced Close = tt
+step_came_of Priced Comma = tt
+step_came_of Pairing (Integer c) = tt
+step_came_of Paired Close = tt
 step_came_of Finishing Semi = tt
 step_came_of _ _ = tt
 

@@ -1,10 +1,12 @@
 -- Small texts, their faults, and what they say.
-use Rattle.std.proofs.Common.{◌≡◌, ℕ, List, [], ◌∷◌, ◌++◌, Option, Some, None, refl, ◌+◌}
+use Rattle.std.proofs.Common.{◌≡◌, ℕ, List, [], ◌∷◌, ◌++◌, Option, Some, None, true, false, refl, ◌+◌}
 use Rattle.std.specs.Prelude.{codes}
 use Rattle.sel_grammar.specs.Limits as limits
 use Rattle.sel_grammar.specs.declared.grammar.Pattern.{Leaf, Nullary, Binary}
 use Rattle.sel_grammar.specs.declared.grammar.Part.TheVariants.{Attribute}
+use Rattle.sel_grammar_text.specs.Items.{word, Amount}
 use Rattle.sel_grammar_text.specs.CostText.{cost_in, wrong_cost}
+use Rattle.sel_grammar_text.specs.FormFaults.{is_cost_list}
 use Rattle.sel_grammar_text.specs.Spots.{first_spots, tokens, here}
 use Rattle.sel_grammar_text.specs.Cutting.{cutting}
 use Rattle.sel_grammar_text.specs.Faults as faults
@@ -34,6 +36,10 @@ fault kind column = Some (faults.fault kind (20 + column))
 cost_large : found 15 (codes "a: X " ++ quoted [] ++ codes " 65536") ≡ fault limits.cost_large 9
 unfolding cutting check cost_in
 cost_large = refl
+
+second_large : found 15 (codes "a: X " ++ quoted [] ++ codes " (0,65536)") ≡ fault limits.cost_large 12
+unfolding cutting check cost_in
+second_large = refl
 
 term_on_left : found 15 (codes "X: a " ++ quoted []) ≡ fault limits.term_on_left 1
 unfolding cutting check
@@ -78,6 +84,20 @@ none_found = refl
 cost_form : wrong_cost 0 (codes " c+1") ≡ Some 1
 unfolding cost_in
 cost_form = refl
+
+pair : cost_in 0 (codes " ( 1 , 2 )") ≡ Some (Amount (record { first = word 3 (codes "1"); second = Some (word 7 (codes "2")) }))
+unfolding cost_in
+pair = refl
+
+three : wrong_cost 0 (codes " (1,2,3)") ≡ Some 1
+unfolding cost_in
+three = refl
+
+list_of_two : is_cost_list (codes "1,2);") ≡ false
+list_of_two = refl
+
+list_of_three : is_cost_list (codes "1,2,3);") ≡ true
+list_of_three = refl
 
 stray : run (tokens (first_spots 13 (head ++ (codes "a X " ++ quoted [])))) begin ≡ None
 stray = refl

@@ -2,9 +2,9 @@
 use Rattle.std.proofs.Common.{◌≡◌, ℕ, suc, zero, ◌+◌, ◌≤◌, List, [], ◌∷◌, ◌++◌, Some, None, Bool, true, false, refl, ap, sym, ◌∙◌, subst, arith, append_assoc, ◌⊎◌, inl, inr, cond}
 use Rattle.std.specs.List.{flat_map, AllByRecursion}
 use Rattle.sel_grammar_text.specs.Tokens.{Token, Name, Integer, Quoted, Percents, Colon, Equals, Open, Close, Comma, Semi, End}
-use Rattle.sel_grammar_text.specs.Form.{Patterns, no_patterns, pattern, Side, below, beside, pattern_tokens, DeclarationForm, StartForm, TermForm, CodeForm, entry_tokens, declaration_tokens, TailForm, OneLineForm, BurgForm, tail_tokens, RuleForm, rule_tokens, IsSmall, IsDeclaration, IsTail, starts, IsText, GoesOn}
+use Rattle.sel_grammar_text.specs.Form.{Patterns, no_patterns, pattern, Side, below, beside, pattern_tokens, DeclarationForm, StartForm, TermForm, CodeForm, entry_tokens, declaration_tokens, OneNumber, TwoNumbers, TailForm, OneLineForm, BurgForm, tail_tokens, RuleForm, rule_tokens, IsSmall, IsDeclaration, IsTail, starts, IsText, GoesOn}
 use Rattle.sel_grammar_text.specs.declared.form.State.{State}
-use Rattle.sel_grammar_text.specs.declared.form.State.TheVariants.{Declaring, Starting, Entering, Equating, Ruling, LeftName, Wanted, Named, Closed, External, Numbered, Pricing, Priced, Finishing, Ended}
+use Rattle.sel_grammar_text.specs.declared.form.State.TheVariants.{Declaring, Starting, Entering, Equating, Ruling, LeftName, Wanted, Named, Closed, External, Numbered, Pricing, Priced, Pairing, Paired, Finishing, Ended}
 use Rattle.sel_grammar_text.specs.Machine.{after_pattern, step, go, run, begin}
 use Rattle.sel_grammar_text.proofs.FormSound.{run-append, count, is_text}
 
@@ -60,8 +60,11 @@ reads_tail : (t : TailForm) → IsTail t → (k : List Token) (s : State) → Is
 reads_tail (OneLineForm i c) h k s b = ap (go (run k)) (behind_step zero s (Quoted i c) b (λ x. cc))
 reads_tail (BurgForm e None) h k s b =
     ap (go (run (Integer e ∷ Semi ∷ k))) (behind_step zero s Equals b (λ x. cc)) ∙ ap (λ f. go (run (Semi ∷ k)) (cond f (Some Numbered) None)) h
-reads_tail (BurgForm e (Some c)) h k s b =
+reads_tail (BurgForm e (Some (OneNumber c))) h k s b =
     ap (go (run (Integer e ∷ Open ∷ Integer c ∷ Close ∷ Semi ∷ k))) (behind_step zero s Equals b (λ x. cc)) ∙ ap (λ f. go (run (Open ∷ Integer c ∷ Close ∷ Semi ∷ k)) (cond f (Some Numbered) None)) h
+reads_tail (BurgForm e (Some (TwoNumbers c d))) h k s b =
+    ap (go (run (Integer e ∷ Open ∷ Integer c ∷ Comma ∷ Integer d ∷ Close ∷ Semi ∷ k))) (behind_step zero s Equals b (λ x. cc))
+    ∙ ap (λ f. go (run (Open ∷ Integer c ∷ Comma ∷ Integer d ∷ Close ∷ Semi ∷ k)) (cond f (Some Numbered) None)) h
 
 reads_rule : (r : RuleForm) → IsTail r.tail → (k : List Token) → run (rule_tokens r ++ k) Ruling ≡ run k Ruling
 reads_rule r h k =
@@ -116,6 +119,8 @@ finish External = Integer [] ∷ Semi ∷ End ∷ []
 finish Numbered = Semi ∷ End ∷ []
 finish Pricing = Integer [] ∷ Close ∷ Semi ∷ End ∷ []
 finish Priced = Close ∷ Semi ∷ End ∷ []
+finish Pairing = Integer [] ∷ Close ∷ Semi ∷ End ∷ []
+finish Paired = Close ∷ Semi ∷ End ∷ []
 finish Finishing = Semi ∷ End ∷ []
 finish Ended = []
 
@@ -141,6 +146,8 @@ finishes External = refl
 finishes Numbered = refl
 finishes Pricing = refl
 finishes Priced = refl
+finishes Pairing = refl
+finishes Paired = refl
 finishes Finishing = refl
 finishes Ended = refl
 

@@ -3,8 +3,8 @@ use Rattle.std.proofs.Common.{◌≡◌, ℕ, ◌+◌, ◌≤◌, List, [], ◌�
 use Rattle.std.specs.List.{flat_map}
 use Rattle.std.proofs.Math.Nat.{eq-or-lt_of_le}
 use Rattle.sel_grammar.specs.Limits.{most_names}
-use Rattle.sel_grammar_text.specs.Tokens.{Token, Name, Integer, Quoted, Start, Term, Percents, Code, Colon, Equals, Open, Close, Semi, End}
-use Rattle.sel_grammar_text.specs.Form.{below, pattern_tokens, DeclarationForm, StartForm, TermForm, CodeForm, entry_tokens, declaration_tokens, TailForm, OneLineForm, BurgForm, tail_tokens, RuleForm, rule_tokens}
+use Rattle.sel_grammar_text.specs.Tokens.{Token, Name, Integer, Quoted, Start, Term, Percents, Code, Colon, Equals, Open, Close, Comma, Semi, End}
+use Rattle.sel_grammar_text.specs.Form.{below, pattern_tokens, DeclarationForm, StartForm, TermForm, CodeForm, entry_tokens, declaration_tokens, OneNumber, TwoNumbers, TailForm, OneLineForm, BurgForm, tail_tokens, RuleForm, rule_tokens}
 use Rattle.sel_grammar_text.specs.Items.{word, RuleText, Item, StartItem, EntryItem, CodeItem, PercentsItem, RuleItem}
 use Rattle.sel_grammar_text.specs.CostText.{wrong_cost}
 use Rattle.sel_grammar_text.specs.FormFaults.{bad_byte, names_in, pattern_names}
@@ -159,7 +159,8 @@ module _ (items : List Item) (to : ℕ) (n : List ℕ) (at : ℕ) where
 abbrev tail_front : TailForm → List Token
 tail_front (OneLineForm i b) = []
 tail_front (BurgForm e None) = Equals ∷ Integer e ∷ []
-tail_front (BurgForm e (Some c)) = Equals ∷ Integer e ∷ Open ∷ Integer c ∷ Close ∷ []
+tail_front (BurgForm e (Some (OneNumber c))) = Equals ∷ Integer e ∷ Open ∷ Integer c ∷ Close ∷ []
+tail_front (BurgForm e (Some (TwoNumbers c d))) = Equals ∷ Integer e ∷ Open ∷ Integer c ∷ Comma ∷ Integer d ∷ Close ∷ []
 
 abbrev tail_last : TailForm → Token
 tail_last (OneLineForm i b) = Quoted i b
@@ -168,12 +169,14 @@ tail_last (BurgForm e c) = Semi
 tail_split : (t : TailForm) → tail_tokens t ≡ tail_front t ++ (tail_last t ∷ [])
 tail_split (OneLineForm i b) = refl
 tail_split (BurgForm e None) = refl
-tail_split (BurgForm e (Some c)) = refl
+tail_split (BurgForm e (Some (OneNumber c))) = refl
+tail_split (BurgForm e (Some (TwoNumbers c d))) = refl
 
 quiet_front : (t : TailForm) → Each is_quiet (tail_front t)
 quiet_front (OneLineForm i b) = tt
 quiet_front (BurgForm e None) = (refl, (refl, tt))
-quiet_front (BurgForm e (Some c)) = (refl, (refl, (refl, (refl, (refl, tt)))))
+quiet_front (BurgForm e (Some (OneNumber c))) = (refl, (refl, (refl, (refl, (refl, tt)))))
+quiet_front (BurgForm e (Some (TwoNumbers c d))) = (refl, (refl, (refl, (refl, (refl, (refl, (refl, tt)))))))
 
 loud_last : (t : TailForm) → is_quiet (tail_last t) ≡ false
 loud_last (OneLineForm i b) = refl
@@ -182,7 +185,8 @@ loud_last (BurgForm e c) = refl
 no_names : (t : TailForm) → names_by (tail_front t) ≡ 0
 no_names (OneLineForm i b) = refl
 no_names (BurgForm e None) = refl
-no_names (BurgForm e (Some c)) = refl
+no_names (BurgForm e (Some (OneNumber c))) = refl
+no_names (BurgForm e (Some (TwoNumbers c d))) = refl
 
 abbrev rule_body : RuleForm → List Token
 rule_body r = Name r.root ∷ pattern_tokens below r.kids

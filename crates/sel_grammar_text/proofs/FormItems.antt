@@ -1,8 +1,8 @@
 -- The items that a text of the form is cut into.
 use Rattle.std.proofs.Common.{◌≡◌, ℕ, ◌+◌, ◌-◌, ◌<◌, List, [], ◌∷◌, ◌++◌, Some, None, Bool, true, false, length, refl, ap, sym, ◌∙◌, arith, cond, eqb, append_assoc, append-nil, map}
 use Rattle.sel_grammar_text.specs.Tokens.{Token, Name, Quoted, Equals, Open, Close, Comma}
-use Rattle.sel_grammar_text.specs.Form.{Patterns, no_patterns, pattern, Side, below, beside, pattern_tokens, TailForm, OneLineForm, BurgForm, tail_tokens, RuleForm}
-use Rattle.sel_grammar_text.specs.Items.{Word, word, TailText, OneLine, Burg}
+use Rattle.sel_grammar_text.specs.Form.{Patterns, no_patterns, pattern, Side, below, beside, pattern_tokens, AmountForm, OneNumber, TwoNumbers, TailForm, OneLineForm, BurgForm, tail_tokens, RuleForm}
+use Rattle.sel_grammar_text.specs.Items.{Word, word, AmountText, TailText, OneLine, Burg}
 use Rattle.sel_grammar_text.specs.CostText.{cost_in}
 use Rattle.sel_grammar_text.proofs.Templates.{unequal}
 use Rattle.sel_grammar_text.specs.Spots.{Spot, tokens}
@@ -151,7 +151,8 @@ pattern_past beside (pattern n kids more) ts h =
 tail_plain : (t : TailForm) → (kids_by (tail_tokens t) ≡ 0) × (pattern_by (tail_tokens t) ≡ [])
 tail_plain (OneLineForm i b) = (refl, refl)
 tail_plain (BurgForm e None) = (refl, refl)
-tail_plain (BurgForm e (Some c)) = (refl, refl)
+tail_plain (BurgForm e (Some (OneNumber c))) = (refl, refl)
+tail_plain (BurgForm e (Some (TwoNumbers c d))) = (refl, refl)
 
 -- the names of a rule's pattern
 pub rule_pattern : (ps : List ℕ) (r : RuleForm) → plain_names (pattern_in (spots_of ps (Name r.root ∷ (pattern_tokens below r.kids ++ tail_tokens r.tail)))) ≡ (r.root, kid_count r.kids) ∷ preorder r.kids
@@ -208,16 +209,22 @@ tail_past ps (Close ∷ xs) ys h = tail_past (tail_of ps) xs ys h.1
 tail_past ps (Comma ∷ xs) ys h = tail_past (tail_of ps) xs ys h.1
 tail_past ps (x ∷ xs) ys h = let w = h.0 in let z : ⊥ = cc in absurd z
 
+-- the amount of the form that begins at the places
+abbrev pub amount_text : List ℕ → AmountForm → AmountText
+amount_text ps (OneNumber c) = record { first = word (head_of ps) c; second = None }
+amount_text ps (TwoNumbers c d) = record { first = word (head_of ps) c; second = Some (word (head_of (tail_of (tail_of ps))) d) }
+
 -- the tail of the form that begins at the places
 abbrev pub tail_text : List ℕ → TailForm → TailText
 tail_text ps (OneLineForm inside behind) = OneLine (word (head_of ps + 1) inside) (or_no_cost (cost_in (head_of ps + length inside + 2) behind))
 tail_text ps (BurgForm external None) = Burg (word (head_of (tail_of ps)) external) None
-tail_text ps (BurgForm external (Some cost)) = Burg (word (head_of (tail_of ps)) external) (Some (word (head_of (tail_of (tail_of (tail_of ps)))) cost))
+tail_text ps (BurgForm external (Some cost)) = Burg (word (head_of (tail_of ps)) external) (Some (amount_text (tail_of (tail_of (tail_of ps))) cost))
 
 tail_so : (ps : List ℕ) (t : TailForm) → tail_in (spots_of ps (tail_tokens t)) ≡ tail_text ps t
 tail_so ps (OneLineForm i b) = refl
 tail_so ps (BurgForm e None) = refl
-tail_so ps (BurgForm e (Some c)) = refl
+tail_so ps (BurgForm e (Some (OneNumber c))) = refl
+tail_so ps (BurgForm e (Some (TwoNumbers c d))) = refl
 
 -- where a rule's tail begins, behind its left name and the colon
 abbrev pub tail_places : List ℕ → RuleForm → List ℕ

@@ -2,9 +2,9 @@
 use Rattle.std.proofs.Common.{◌≡◌, ℕ, suc, zero, ◌+◌, ◌≤◌, List, [], ◌∷◌, ◌++◌, Some, None, Bool, true, false, refl, ap, ◌∙◌, arith, append_assoc, ◌⊎◌, inl, inr, cond}
 use Rattle.std.specs.List.{flat_map, AllByRecursion}
 use Rattle.sel_grammar_text.specs.Tokens.{Token, Name, Integer, Quoted, Start, Term, Percents, Code, Colon, Equals, Open, Close, Comma, Semi, End}
-use Rattle.sel_grammar_text.specs.Form.{Patterns, no_patterns, pattern, below, beside, pattern_tokens, DeclarationForm, StartForm, TermForm, CodeForm, entry_tokens, declaration_tokens, TailForm, OneLineForm, BurgForm, tail_tokens, RuleForm, rule_tokens, is_small, IsSmall, IsDeclaration, IsTail, starts, IsText}
+use Rattle.sel_grammar_text.specs.Form.{Patterns, no_patterns, pattern, below, beside, pattern_tokens, DeclarationForm, StartForm, TermForm, CodeForm, entry_tokens, declaration_tokens, AmountForm, OneNumber, TwoNumbers, TailForm, OneLineForm, BurgForm, tail_tokens, RuleForm, rule_tokens, is_small, IsSmall, IsDeclaration, IsTail, starts, IsText}
 use Rattle.sel_grammar_text.specs.declared.form.State.{State}
-use Rattle.sel_grammar_text.specs.declared.form.State.TheVariants.{Declaring, Starting, Entering, Equating, Ruling, LeftName, Wanted, Named, Closed, External, Numbered, Pricing, Priced, Finishing, Ended}
+use Rattle.sel_grammar_text.specs.declared.form.State.TheVariants.{Declaring, Starting, Entering, Equating, Ruling, LeftName, Wanted, Named, Closed, External, Numbered, Pricing, Priced, Pairing, Paired, Finishing, Ended}
 use Rattle.sel_grammar_text.specs.Machine.{after_pattern, declare, step, go, run, begin}
 
 pub run-append : (ts us : List Token) (s : State) → run (ts ++ us) s ≡ go (run us) (run ts s)
@@ -27,9 +27,14 @@ Below d ts = (kids : Patterns) × (us : List Token) × (ts ≡ pattern_tokens be
 abbrev pub Names : ℕ → List Token → Type 0
 Names d ts = (n : List ℕ) × (us : List Token) × (ts ≡ Name n ∷ us) × Below d us
 
+-- a cost behind its parenthesis, up to the semicolon and what follows
+abbrev pub priced : AmountForm → List Token → List Token
+priced (OneNumber c) us = Integer c ∷ Close ∷ Semi ∷ us
+priced (TwoNumbers c d) us = Integer c ∷ Comma ∷ Integer d ∷ Close ∷ Semi ∷ us
+
 -- what stands behind the external number
 abbrev pub AfterNumber : List Token → Type 0
-AfterNumber ts = (us : List Token) × Rules us × ((ts ≡ Semi ∷ us) ⊎ ((c : List ℕ) × (ts ≡ Open ∷ Integer c ∷ Close ∷ Semi ∷ us)))
+AfterNumber ts = (us : List Token) × Rules us × ((ts ≡ Semi ∷ us) ⊎ ((c : AmountForm) × (ts ≡ Open ∷ priced c us)))
 
 abbrev pub count : Bool → ℕ
 count true = 1
@@ -55,8 +60,10 @@ Completes (Named d) ts = Below d ts
 Completes (Closed d) ts = AfterPattern d ts
 Completes External ts = (e : List ℕ) × (us : List Token) × IsSmall e × (ts ≡ Integer e ∷ us) × AfterNumber us
 Completes Numbered ts = AfterNumber ts
-Completes Pricing ts = (c : List ℕ) × (us : List Token) × (ts ≡ Integer c ∷ Close ∷ Semi ∷ us) × Rules us
-Completes Priced ts = (us : List Token) × (ts ≡ Close ∷ Semi ∷ us) × Rules us
+Completes Pricing ts = (c : AmountForm) × (us : List Token) × (ts ≡ priced c us) × Rules us
+Completes Priced ts = (us : List Token) × Rules us × ((ts ≡ Close ∷ Semi ∷ us) ⊎ ((d : List ℕ) × (ts ≡ Comma ∷ Integer d ∷ Close ∷ Semi ∷ us)))
+Completes Pairing ts = (d : List ℕ) × (us : List Token) × (ts ≡ Integer d ∷ Close ∷ Semi ∷ us) × Rules us
+Completes Paired ts = (us : List Token) × (ts ≡ Close ∷ Semi ∷ us) × Rules us
 Completes Finishing ts = (us : List Token) × (ts ≡ Semi ∷ us) × Rules us
 Completes Ended ts = ts ≡ []
 
@@ -68,6 +75,10 @@ glue_beside x y z ts us rest rest' k m e f g = simp (e, f, g, append_assoc)
 
 glue_below : (x y z : Token) (ts us rest rest' k m : List Token) → ts ≡ y ∷ us → us ≡ k ++ rest → rest ≡ m ++ (z ∷ rest') → x ∷ ts ≡ x ∷ y ∷ ((k ++ (m ++ (z ∷ []))) ++ rest')
 glue_below x y z ts us rest rest' k m e f g = simp (e, f, g, append_assoc)
+
+burg_glue : (e : List ℕ) (c : AmountForm) (us : List Token) → Equals ∷ Integer e ∷ Open ∷ priced c us ≡ tail_tokens (BurgForm e (Some c)) ++ us
+burg_glue e (OneNumber c) us = refl
+burg_glue e (TwoNumbers c d) us = refl
 
 after_pattern_sound : (ts : List Token) → Onward ts → (d : ℕ) (t : Token) → go (run ts) (after_pattern d t) ≡ Some Ended → AfterPattern d (t ∷ ts)
 after_pattern_sound ts ih (suc d) Comma h =
@@ -81,7 +92,7 @@ after_pattern_sound ts ih zero Equals h =
     let n : AfterNumber w.1 = w.4 in
     elim n.2 [
       | inl e ↦ (BurgForm w.0 None, n.0, w.2, ap (λ x. Equals ∷ x) (w.3 ∙ ap (λ x. Integer w.0 ∷ x) e), n.1)
-      | inr f ↦ (BurgForm w.0 (Some f.0), n.0, w.2, ap (λ x. Equals ∷ x) (w.3 ∙ ap (λ x. Integer w.0 ∷ x) f.1), n.1)
+      | inr f ↦ (BurgForm w.0 (Some f.0), n.0, w.2, ap (λ x. Equals ∷ x) (w.3 ∙ ap (λ x. Integer w.0 ∷ x) f.1) ∙ burg_glue w.0 f.0 n.0, n.1)
     ]
 after_pattern_sound ts ih _ _ h = cc
 
@@ -152,6 +163,12 @@ rule_sound n ts w =
       rule_glue n names.0 ts w.0 names.1 b.1 a.1 (pattern_tokens below b.0) (tail_tokens a.0) (flat_map rule_tokens r.0) r.1 w.1 names.2 b.2 a.3 r.4,
     )
 
+number_sound : (c : List ℕ) (ts : List Token) → Completes Priced ts → Completes Pricing (Integer c ∷ ts)
+number_sound c ts w = elim w.2 [
+  | inl e ↦ (OneNumber c, w.0, ap (λ x. Integer c ∷ x) e, w.1)
+  | inr f ↦ (TwoNumbers c f.0, w.0, ap (λ x. Integer c ∷ x) f.1, w.1)
+]
+
 step_sound : (ts : List Token) → Onward ts → (s : State) (t : Token) → go (run ts) (step s t) ≡ Some Ended → Completes s (t ∷ ts)
 step_sound ts ih (Declaring s t) token h = declare_sound ts ih s t token h
 step_sound ts ih Starting (Name n) h = (n, ts, refl, ih (Declaring true false) h)
@@ -168,8 +185,11 @@ step_sound ts ih (Closed d) t h = after_pattern_sound ts ih d t h
 step_sound ts ih External (Integer e) h = let u = when ts (is_small e) Numbered h in (e, ts, u.0, refl, ih Numbered u.1)
 step_sound ts ih Numbered Open h = let w : Completes Pricing ts = ih Pricing h in (w.1, w.3, inr (w.0, ap (λ x. Open ∷ x) w.2))
 step_sound ts ih Numbered Semi h = (ts, ih Ruling h, inl refl)
-step_sound ts ih Pricing (Integer c) h = let w : Completes Priced ts = ih Priced h in (c, w.0, ap (λ x. Integer c ∷ x) w.1, w.2)
-step_sound ts ih Priced Close h = let w : Completes Finishing ts = ih Finishing h in (w.0, ap (λ x. Close ∷ x) w.1, w.2)
+step_sound ts ih Pricing (Integer c) h = number_sound c ts (ih Priced h)
+step_sound ts ih Priced Close h = let w : Completes Finishing ts = ih Finishing h in (w.0, w.2, inl (ap (λ x. Close ∷ x) w.1))
+step_sound ts ih Priced Comma h = let w : Completes Pairing ts = ih Pairing h in (w.1, w.3, inr (w.0, ap (λ x. Comma ∷ x) w.2))
+step_sound ts ih Pairing (Integer d) h = let w : Completes Paired ts = ih Paired h in (d, w.0, ap (λ x. Integer d ∷ x) w.1, w.2)
+step_sound ts ih Paired Close h = let w : Completes Finishing ts = ih Finishing h in (w.0, ap (λ x. Close ∷ x) w.1, w.2)
 step_sound ts ih Finishing Semi h = (ts, refl, ih Ruling h)
 step_sound ts ih _ _ h = cc
 

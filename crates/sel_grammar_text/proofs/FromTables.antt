@@ -5,11 +5,10 @@ use Rattle.std.proofs.lemmas.Slice.Eq.{bytes_eq-Decides}
 use Rattle.sel_grammar_text.specs.Words.{view_word}
 use Rattle.sel_grammar_text.specs.GrammarText.{first_absent, left_names, nonterminal_uses, end_fault}
 use Rattle.sel_grammar_text.specs.Checks.{or_place}
-use Rattle.sel_grammar.specs.declared.grammar.Grammar.{Grammar}
 use Rattle.std.proofs.lemmas.List.{length-map}
 use Rattle.sel_grammar_text.specs.Items.{Word, RuleText, Item, StartItem, EntryItem, CodeItem, PercentsItem, RuleItem}
-use Rattle.sel_grammar_text.specs.Names.{is_among, operators, rules, nonterminals, uses, with_words}
-use Rattle.sel_grammar_text.specs.Meaning.{operators_of, rule_of, start_of, grammar_of}
+use Rattle.sel_grammar_text.specs.Names.{is_among, operators, rules, nonterminals, uses}
+use Rattle.sel_grammar_text.specs.Meaning.{rule_of, start_of, grammar_of}
 use Rattle.sel_grammar_text.specs.Faults.{fault, fault_at, or_fault}
 use Rattle.sel_grammar_text.specs.ItemFaults.{check, first_fault}
 use Rattle.sel_grammar.specs.Limits as limits

@@ -1,13 +1,13 @@
 -- What is said of items with one more behind them.
-use Rattle.std.proofs.Common.{◌≡◌, ℕ, ◌+◌, List, [], ◌∷◌, ◌++◌, Option, Some, None, Bool, true, false, refl, ap, sym, ◌∙◌, cond, map, length, ◌&&◌}
-use Rattle.std.specs.Prelude.{not, bytes_eq, is_some, option_map, nat_eq}
-use Rattle.std.specs.List.{flat_map, list_any}
+use Rattle.std.proofs.Common.{◌≡◌, ℕ, List, [], ◌∷◌, ◌++◌, Some, None, Bool, true, false, refl, ap, sym, ◌∙◌, cond, map, length, ◌&&◌}
+use Rattle.std.specs.Prelude.{not, bytes_eq, is_some}
+use Rattle.std.specs.List.{flat_map}
 use Rattle.std.proofs.lemmas.List.{append-nil, length-map}
 use Rattle.std.specs.Str.Parse.{digits_value}
 use Rattle.std.proofs.Common.{append_assoc}
 use Rattle.sel_grammar.specs.declared.grammar.Operator.{Operator}
-use Rattle.sel_grammar_text.specs.Items.{Word, RuleText, Item, StartItem, EntryItem, CodeItem, PercentsItem, RuleItem}
-use Rattle.sel_grammar_text.specs.Names.{is_among, operators, rules, leaves, nonterminal_words, with_words, uses, first_use}
+use Rattle.sel_grammar_text.specs.Items.{Word, Item, StartItem, EntryItem, CodeItem, PercentsItem, RuleItem}
+use Rattle.sel_grammar_text.specs.Names.{is_among, operators, rules, leaves, with_words, first_use}
 use Rattle.sel_grammar_text.specs.Meaning.{operators_of}
 use Rattle.sel_grammar_text.specs.GrammarText.{nonterminal_uses}
 use Rattle.sel_grammar_text.specs.Tables.{start_word, or_word, operator_names, with_use, noted, with_uses}

@@ -1,18 +1,18 @@
 -- The numbers among the words of an item consist of digits.
-use Rattle.std.proofs.Common.{◌≡◌, ℕ, suc, zero, ◌+◌, ◌-◌, ◌<◌, ◌≤◌, ◌^◌, List, [], ◌∷◌, ◌++◌, Option, Some, None, Bool, true, false, length, refl, ap, sym, ◌∙◌, arith, cond, eqb, ◌&&◌, drop, take, append_assoc}
+use Rattle.std.proofs.Common.{◌≡◌, ℕ, suc, zero, ◌+◌, ◌-◌, ◌<◌, ◌^◌, List, [], ◌∷◌, ◌++◌, Option, Some, None, Bool, true, false, length, refl, ap, sym, ◌∙◌, arith, cond, eqb, ◌&&◌, drop, take, append_assoc}
 use Rattle.std.specs.Prelude.{bytes_eq, codes}
 use Rattle.std.specs.List.{AllByRecursion, prefix_len}
 use Rattle.std.specs.Char.{is_ascii_digit}
 use Rattle.std.specs.Str.Parse.{AllDigits}
 use Rattle.sel_grammar.specs.Names.{is_letter}
 use Rattle.sel_grammar_text.specs.Blanks.{skip}
-use Rattle.sel_grammar_text.specs.Tokens.{Token, Name, Integer, Quoted, Start, Percents, Code, Equals, width, token_of}
+use Rattle.sel_grammar_text.specs.Tokens.{Token, Name, Integer, Quoted, Start, Percents, Code, Equals, width}
 use Rattle.sel_grammar_text.specs.Spots.{Spot, spot, first, behind}
-use Rattle.sel_grammar_text.specs.Items.{Word, word, CostText, NoCost, Amount, Ranged, TailText, OneLine, Burg, Item}
+use Rattle.sel_grammar_text.specs.Items.{Word, word, CostText, Amount}
 use Rattle.sel_grammar_text.specs.Checks.{begins_with_minus}
-use Rattle.sel_grammar_text.specs.CostText.{CostToken, CostName, Digits, Negative, Single, begins_with_digit, cost_token, cost_width, cost_tokens_to, cost_tokens, is_single, is_word, behind_token, and_then, bound_in, read_bound, read_number, read_addend, read_range, read_cost, cost_in}
-use Rattle.sel_grammar_text.specs.Cutting.{digits_in, is_equals, numbers_in, burg_of, or_no_cost, tail_in, entry_in, named_item, start_item, item_of, pattern_in}
-use Rattle.sel_grammar_text.specs.ItemNumbers.{IsNumber, IsNumberIfAny, IsBound, IsWithin, HasNumbersInCost, HasNumbersInTail, HasNumbers, HasDigits, IsSpot}
+use Rattle.sel_grammar_text.specs.CostText.{CostToken, CostName, Digits, Negative, Single, begins_with_digit, cost_token, cost_width, cost_tokens_to, cost_tokens, is_single, is_word, behind_token, and_then, bound_in, read_bound, read_number, read_digits, at_end, read_pair, read_amount, read_addend, read_range, read_cost, cost_in}
+use Rattle.sel_grammar_text.specs.Cutting.{digits_in, is_equals, numbers_in, amount_of, burg_of, or_no_cost, tail_in, entry_in, named_item, start_item, item_of}
+use Rattle.sel_grammar_text.specs.ItemNumbers.{IsNumber, HasNumbersInAmount, HasNumbersIfAny, IsBound, HasNumbersInCost, HasNumbersInTail, HasNumbers, HasDigits, IsSpot}
 use Rattle.sel_grammar_text.proofs.DigitTokens.{digits_front}
 
 choose : {X : Type 0} (P : X → Type 0) (b : Bool) (x y : X) → P x → P y → P (cond b x y)
@@ -86,11 +86,38 @@ read_number_holds ((at, Negative bytes) ∷ ts) h = tt
 read_number_holds ((at, CostName n) ∷ ts) h = tt
 read_number_holds ((at, Single b) ∷ ts) h = tt
 
-read_addend_holds : (ts : List (ℕ × CostToken)) → AreCostTokens ts → Holds IsNumberIfAny (read_addend ts)
+read_digits_holds : (ts : List (ℕ × CostToken)) → AreCostTokens ts → Holds (λ r. IsNumber r.0 × AreCostTokens r.1) (read_digits ts)
+read_digits_holds [] h = tt
+read_digits_holds ((at, Digits bytes) ∷ ts) h = h
+read_digits_holds ((at, Negative bytes) ∷ ts) h = tt
+read_digits_holds ((at, CostName n) ∷ ts) h = tt
+read_digits_holds ((at, Single b) ∷ ts) h = tt
+
+at_end_holds : {X : Type 0} (P : X → Type 0) (x : X) (ts : List (ℕ × CostToken)) → P x → Holds P (at_end x ts)
+at_end_holds P x [] h = h
+at_end_holds P x (t ∷ ts) h = tt
+
+read_pair_holds : (ts : List (ℕ × CostToken)) → AreCostTokens ts → Holds HasNumbersInAmount (read_pair ts)
+read_pair_holds ts h =
+    then_holds (λ r. IsNumber r.0 × AreCostTokens r.1) HasNumbersInAmount (read_digits ts) _ (read_digits_holds ts h) (λ first a.
+    then_holds AreCostTokens HasNumbersInAmount (behind_token (is_single 44) first.1) _ (behind_holds (is_single 44) first.1 a.1) (λ ts h.
+    then_holds (λ r. IsNumber r.0 × AreCostTokens r.1) HasNumbersInAmount (read_digits ts) _ (read_digits_holds ts h) (λ second b.
+    then_holds AreCostTokens HasNumbersInAmount (behind_token (is_single 41) second.1) _ (behind_holds (is_single 41) second.1 b.1) (λ ts h.
+    at_end_holds HasNumbersInAmount _ ts (a.0, b.0)))))
+
+read_amount_holds : (ts : List (ℕ × CostToken)) → AreCostTokens ts → Holds HasNumbersInAmount (read_amount ts)
+read_amount_holds ts h = by_parenthesis (behind_token (is_single 40) ts) (behind_holds (is_single 40) ts h)
+  where
+    by_parenthesis : (o : Option (List (ℕ × CostToken))) → Holds AreCostTokens o
+        → Holds HasNumbersInAmount (elim o [ None ↦ and_then (read_number ts) (λ w. Some (record { first = w; second = None })) | Some more ↦ read_pair more ])
+    by_parenthesis None k = then_holds IsNumber HasNumbersInAmount (read_number ts) (λ w. Some (record { first = w; second = None })) (read_number_holds ts h) (λ w d. (d, tt))
+    by_parenthesis (Some more) k = read_pair_holds more k
+
+read_addend_holds : (ts : List (ℕ × CostToken)) → AreCostTokens ts → Holds HasNumbersIfAny (read_addend ts)
 read_addend_holds [] h = tt
 read_addend_holds (t ∷ ts) h =
-    then_holds AreCostTokens IsNumberIfAny (behind_token (is_single 43) (t ∷ ts)) _ (behind_holds (is_single 43) (t ∷ ts) h) (λ us k.
-    then_holds IsNumber IsNumberIfAny (read_number us) (λ w. Some (Some w)) (read_number_holds us k) (λ w d. d))
+    then_holds AreCostTokens HasNumbersIfAny (behind_token (is_single 43) (t ∷ ts)) _ (behind_holds (is_single 43) (t ∷ ts) h) (λ us k.
+    then_holds HasNumbersInAmount HasNumbersIfAny (read_amount us) (λ a. Some (Some a)) (read_amount_holds us k) (λ a d. d))
 
 read_range_holds : (at : ℕ) (ts : List (ℕ × CostToken)) → AreCostTokens ts → Holds HasNumbersInCost (read_range at ts)
 read_range_holds at ts h =
@@ -101,17 +128,17 @@ read_range_holds at ts h =
     then_holds AreCostTokens HasNumbersInCost (behind_token (is_single 44) lo.1) _ (behind_holds (is_single 44) lo.1 l.1) (λ ts h.
     then_holds (λ r. IsBound r.0 × AreCostTokens r.1) HasNumbersInCost (read_bound ts) _ (read_bound_holds ts h) (λ hi u.
     then_holds AreCostTokens HasNumbersInCost (behind_token (is_single 41) hi.1) _ (behind_holds (is_single 41) hi.1 u.1) (λ ts h.
-    then_holds IsNumberIfAny HasNumbersInCost (read_addend ts) _ (read_addend_holds ts h) (λ addend a. (l.0, u.0, a)))))))))
+    then_holds HasNumbersIfAny HasNumbersInCost (read_addend ts) _ (read_addend_holds ts h) (λ addend a. (l.0, u.0, a)))))))))
 
-read_amount_holds : (ts : List (ℕ × CostToken)) → AreCostTokens ts → Holds HasNumbersInCost (and_then (read_number ts) (λ w. Some (Amount w)))
-read_amount_holds ts h = then_holds IsNumber HasNumbersInCost (read_number ts) (λ w. Some (Amount w)) (read_number_holds ts h) (λ w d. d)
+amount_holds : (ts : List (ℕ × CostToken)) → AreCostTokens ts → Holds HasNumbersInCost (and_then (read_amount ts) (λ a. Some (Amount a)))
+amount_holds ts h = then_holds HasNumbersInAmount HasNumbersInCost (read_amount ts) (λ a. Some (Amount a)) (read_amount_holds ts h) (λ a d. d)
 
 read_cost_holds : (ts : List (ℕ × CostToken)) → AreCostTokens ts → Holds HasNumbersInCost (read_cost ts)
 read_cost_holds [] h = tt
 read_cost_holds ((at, CostName name) ∷ ts) h = choose (Holds HasNumbersInCost) (bytes_eq name (codes "range")) (read_range at ts) None (read_range_holds at ts h.1) tt
-read_cost_holds ((at, Digits bytes) ∷ ts) h = read_amount_holds ((at, Digits bytes) ∷ ts) h
-read_cost_holds ((at, Negative bytes) ∷ ts) h = read_amount_holds ((at, Negative bytes) ∷ ts) h
-read_cost_holds ((at, Single b) ∷ ts) h = read_amount_holds ((at, Single b) ∷ ts) h
+read_cost_holds ((at, Digits bytes) ∷ ts) h = amount_holds ((at, Digits bytes) ∷ ts) h
+read_cost_holds ((at, Negative bytes) ∷ ts) h = amount_holds ((at, Negative bytes) ∷ ts) h
+read_cost_holds ((at, Single b) ∷ ts) h = amount_holds ((at, Single b) ∷ ts) h
 
 or_no_cost_holds : (o : Option CostText) → Holds HasNumbersInCost o → HasNumbersInCost (or_no_cost o)
 or_no_cost_holds None h = tt
@@ -133,10 +160,14 @@ numbers_hold (s ∷ spots) h = go s.token h.0.digits (numbers_hold spots h.1)
     go (Integer d) k m = (k, m)
     go _ k m = m
 
+amount_numbers : (ws : List Word) → AllByRecursion IsNumber ws → HasNumbersIfAny (amount_of ws)
+amount_numbers [] h = tt
+amount_numbers (c ∷ []) h = (h.0, tt)
+amount_numbers (c ∷ d ∷ more) h = (h.0, h.1.0)
+
 burg_numbers : (ws : List Word) → AllByRecursion IsNumber ws → HasNumbersInTail (burg_of ws)
 burg_numbers [] h = (tt, tt)
-burg_numbers (e ∷ []) h = (h.0, tt)
-burg_numbers (e ∷ c ∷ more) h = (h.0, h.1.0)
+burg_numbers (e ∷ ws) h = (h.0, amount_numbers ws h.1)
 
 tail_numbers : (spots : List Spot) → AllByRecursion IsSpot spots → HasNumbersInTail (tail_in spots)
 tail_numbers [] h = (tt, tt)

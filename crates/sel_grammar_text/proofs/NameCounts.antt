@@ -1,5 +1,5 @@
 -- How many names the pattern of a rule has, and how many kids these have together.
-use Rattle.std.proofs.Common.{◌≡◌, ℕ, suc, zero, ◌+◌, ◌-◌, ◌≤◌, ◌<◌, inl, inr, List, [], ◌∷◌, ◌++◌, length, Option, Some, None, Bool, true, false, refl, ap, sym, ◌∙◌, subst, arith, append_assoc, append-nil, cond}
+use Rattle.std.proofs.Common.{◌≡◌, ℕ, suc, zero, ◌+◌, ◌-◌, ◌≤◌, ◌<◌, inl, inr, List, [], ◌∷◌, ◌++◌, length, Option, Some, None, Bool, true, false, refl, ap, sym, ◌∙◌, subst, arith, append_assoc, append-nil, cond, eqb}
 use Rattle.std.proofs.Math.Nat.{eq-or-lt_of_le}
 use Rattle.std.specs.List.{AllByRecursion}
 use Rattle.sel_grammar.specs.Limits as limits
@@ -17,13 +17,14 @@ use Rattle.sel_grammar_text.specs.Machine.{after_pattern, declare, step, run, go
 use Rattle.sel_grammar_text.specs.declared.fault.Fault.{Fault}
 use Rattle.sel_grammar_text.specs.declared.scan.Extent.{Extent}
 use Rattle.sel_grammar_text.specs.declared.form.State.{State}
-use Rattle.sel_grammar_text.specs.declared.form.State.TheVariants.{Declaring, Starting, Entering, Equating, Ruling, LeftName, Wanted, Named, Closed, External, Numbered, Pricing, Priced, Finishing, Ended}
+use Rattle.sel_grammar_text.specs.declared.form.State.TheVariants.{Declaring, Starting, Entering, Equating, Ruling, LeftName, Wanted, Named, Closed, External, Numbered, Pricing, Priced, Pairing, Paired, Finishing, Ended}
 use Rattle.sel_grammar_text.proofs.FormSound.{run-append}
 use Rattle.sel_grammar_text.proofs.FormComplete.{complete, goes_on}
 use Rattle.sel_grammar_text.proofs.Steps.{tokens-snoc, cutting-snoc}
 use Rattle.sel_grammar_text.proofs.Walking.{run_one}
 use Rattle.sel_grammar_text.proofs.Bordering.{Begun, GoesOrEnds, begun_next, border_begun}
 use Rattle.sel_grammar_text.proofs.ItemLists.{rules-append}
+use Rattle.sel_grammar_text.proofs.Templates.{unequal}
 use Rattle.sel_grammar_text.proofs.Commas.{kids_sum, joints, HasPlainTail, kids_bounded}
 
 -- a pattern has a name, and no more of them than a pattern may have; they have fewer kids than they are
@@ -46,11 +47,17 @@ record HasPattern (more : List Spot) (names joined : ℕ) : Type 0 where
   joints_are : (ys : List Spot) → joints (more ++ ys) ≡ joined + joints ys
   plain : (ys : List Spot) → HasPlainTail ys → HasPlainTail (more ++ ys)
 
--- What has come is a whole pattern, with so many names and joints, and a part of its tail.
-record HasWhole (more : List Spot) (names joined : ℕ) : Type 0 where
+-- one level deeper within the parentheses of a cost
+abbrev level : Bool → ℕ → ℕ
+level true d = suc d
+level false d = d
+
+-- What has come is a whole pattern, with so many names and joints, and a part of its tail, which may end within the
+-- parentheses of a cost.
+record HasWhole (inside : Bool) (more : List Spot) (names joined : ℕ) : Type 0 where
   names_are : (ys : List Spot) → length (pattern_in (more ++ ys)) ≡ names
   joints_are : (ys : List Spot) → joints (more ++ ys) ≡ joined
-  plain : (ys : List Spot) → ((d : ℕ) → commas d ys ≡ 0) → HasPlainTail (more ++ ys)
+  plain : (ys : List Spot) → ((d : ℕ) → commas (level inside d) ys ≡ 0) → HasPlainTail (more ++ ys)
 
 -- a rule has begun, and more has come behind its colon
 record InRule (left more : List Spot) : Type 0 where
@@ -62,8 +69,8 @@ record InRule (left more : List Spot) : Type 0 where
 abbrev InPattern : List Spot → ℕ → ℕ → Type 0
 InPattern left names joined = (more : List Spot) × InRule left more × HasPattern more names joined × (names ≤ most_names)
 
-abbrev InTail : List Spot → Type 0
-InTail left = (j : ℕ) × (more : List Spot) × InRule left more × HasWhole more (suc j) j × (suc j ≤ most_names)
+abbrev InTail : Bool → List Spot → Type 0
+InTail inside left = (j : ℕ) × (more : List Spot) × InRule left more × HasWhole inside more (suc j) j × (suc j ≤ most_names)
 
 -- what is known of the names of the item so far
 abbrev Counted : State → List Spot → Type 0
@@ -76,11 +83,13 @@ Counted LeftName left = (n : List ℕ) × (a : ℕ) × (left ≡ at_spot (Name n
 Counted (Wanted d) left = (j : ℕ) × InPattern left j j
 Counted (Named d) left = (j : ℕ) × InPattern left (suc j) j
 Counted (Closed d) left = (j : ℕ) × InPattern left (suc j) j
-Counted External left = InTail left
-Counted Numbered left = InTail left
-Counted Pricing left = InTail left
-Counted Priced left = InTail left
-Counted Finishing left = InTail left
+Counted External left = InTail false left
+Counted Numbered left = InTail false left
+Counted Pricing left = InTail true left
+Counted Priced left = InTail true left
+Counted Pairing left = InTail true left
+Counted Paired left = InTail true left
+Counted Finishing left = InTail false left
 Counted Ended left = Unit {0}
 
 -- the item goes on with the token, or ends with it
@@ -139,44 +148,46 @@ in_pattern : (left : List Spot) (z : Spot) (n j m i a b : ℕ) → m ≡ n + a �
 in_pattern left z n j m i a b e f l k h = (h.0 ++ z ∷ [], more_rule left h.0 z h.1, more_pattern h.0 z n j m i a b e f k h.2, l)
 
 -- the equals sign ends the pattern
-equals_whole : (more : List Spot) (at n j : ℕ) → HasPattern more n j → HasWhole (more ++ at_spot Equals at ∷ []) n j
+equals_whole : (more : List Spot) (at n j : ℕ) → HasPattern more n j → HasWhole false (more ++ at_spot Equals at ∷ []) n j
 equals_whole more at n j h = record {
   names_are = λ ys. ap (λ l. length (pattern_in l)) (append_assoc more (at_spot Equals at ∷ []) ys) ∙ (let e = h.names_are (at_spot Equals at ∷ ys) in omega (arith, e));
   joints_are = λ ys. ap joints (append_assoc more (at_spot Equals at ∷ []) ys) ∙ (let e = h.joints_are (at_spot Equals at ∷ ys) in omega (arith, e));
   plain = λ ys p. subst HasPlainTail (sym (append_assoc more (at_spot Equals at ∷ []) ys)) (h.plain (at_spot Equals at ∷ ys) p);
 }
 
-in_tail : (left : List Spot) (at j : ℕ) → InPattern left (suc j) j → InTail (left ++ at_spot Equals at ∷ [])
+in_tail : (left : List Spot) (at j : ℕ) → InPattern left (suc j) j → InTail false (left ++ at_spot Equals at ∷ [])
 in_tail left at j h = (j, h.0 ++ at_spot Equals at ∷ [], more_rule left h.0 (at_spot Equals at) h.1, equals_whole h.0 at (suc j) j h.2, h.3)
 
--- a spot of the tail that is no comma
-abbrev IsPlain : Spot → Type 0
-IsPlain z = (ys : List Spot) → ((d : ℕ) → commas d ys ≡ 0) → (d : ℕ) → commas d (z ∷ ys) ≡ 0
+-- a spot of the tail that adds no comma outside the parentheses of a cost, within which it stands or leads or not
+abbrev IsPlain : Bool → Bool → Spot → Type 0
+IsPlain before behind z = (ys : List Spot) → ((d : ℕ) → commas (level behind d) ys ≡ 0) → (d : ℕ) → commas (level before d) (z ∷ ys) ≡ 0
 
-more_whole : (more : List Spot) (z : Spot) (n j : ℕ) → IsPlain z → HasWhole more n j → HasWhole (more ++ z ∷ []) n j
-more_whole more z n j k h = record {
+more_whole : (a b : Bool) (more : List Spot) (z : Spot) (n j : ℕ) → IsPlain a b z → HasWhole a more n j → HasWhole b (more ++ z ∷ []) n j
+more_whole a b more z n j k h = record {
   names_are = λ ys. ap (λ l. length (pattern_in l)) (append_assoc more (z ∷ []) ys) ∙ h.names_are (z ∷ ys);
   joints_are = λ ys. ap joints (append_assoc more (z ∷ []) ys) ∙ h.joints_are (z ∷ ys);
   plain = λ ys p. subst HasPlainTail (sym (append_assoc more (z ∷ []) ys)) (h.plain (z ∷ ys) (k ys p));
 }
 
-more_tail : (left : List Spot) (z : Spot) → IsPlain z → InTail left → InTail (left ++ z ∷ [])
-more_tail left z k h = (h.0, h.1 ++ z ∷ [], more_rule left h.1 z h.2, more_whole h.1 z (suc h.0) h.0 k h.3, h.4)
+more_tail : (a b : Bool) (left : List Spot) (z : Spot) → IsPlain a b z → InTail a left → InTail b (left ++ z ∷ [])
+more_tail a b left z k h = (h.0, h.1 ++ z ∷ [], more_rule left h.1 z h.2, more_whole a b h.1 z (suc h.0) h.0 k h.3, h.4)
 
-plain_open : (at : ℕ) → IsPlain (at_spot Open at)
-plain_open at ys p d = p (d + 1)
+not_zero : (d : ℕ) → eqb (suc d) 0 ≡ false
+not_zero d = unequal (suc d) 0 (λ e. omega arith)
 
-none_by : (b : Bool) (x : ℕ) → x ≡ 0 → cond b 0 x ≡ 0
-none_by true x h = refl
-none_by false x h = h
+plain_open : (at : ℕ) → IsPlain false true (at_spot Open at)
+plain_open at ys p d = ap (λ e. commas e ys) (let e : d + 1 ≡ suc d = omega arith in e) ∙ p d
 
-plain_close : (at : ℕ) → IsPlain (at_spot Close at)
-plain_close at ys p d = none_by _ (commas (d - 1) ys) (p (d - 1))
+plain_close : (at : ℕ) → IsPlain true false (at_spot Close at)
+plain_close at ys p d = ap (λ t. cond t 0 (commas (suc d - 1) ys)) (not_zero d) ∙ ap (λ e. commas e ys) (let e : suc d - 1 ≡ d = omega arith in e) ∙ p d
 
-plain_integer : (n : List ℕ) (at : ℕ) → IsPlain (at_spot (Integer n) at)
-plain_integer n at ys p d = p d
+plain_comma : (at : ℕ) → IsPlain true true (at_spot Comma at)
+plain_comma at ys p d = ap (λ t. cond t 1 0 + commas (suc d) ys) (not_zero d) ∙ (let e = p d in omega (arith, e))
 
-plain_semi : (at : ℕ) → IsPlain (at_spot Semi at)
+plain_integer : (inside : Bool) (n : List ℕ) (at : ℕ) → IsPlain inside inside (at_spot (Integer n) at)
+plain_integer inside n at ys p d = p d
+
+plain_semi : (at : ℕ) → IsPlain false false (at_spot Semi at)
 plain_semi at ys p d = p d
 
 -- a rule's item
@@ -192,7 +203,7 @@ quoted_few left i c at j h =
     let z = at_spot (Quoted i c) at in
     rule_few left h.0 z j h.1 (let e = h.2.names_are (z ∷ []) in omega (arith, e)) (let e = h.2.joints_are (z ∷ []) in omega (arith, e)) (h.2.plain (z ∷ []) (λ d. refl)) h.3
 
-semi_few : (left : List Spot) (at : ℕ) → InTail left → HaveFewNames (item_of (left ++ at_spot Semi at ∷ []))
+semi_few : (left : List Spot) (at : ℕ) → InTail false left → HaveFewNames (item_of (left ++ at_spot Semi at ∷ []))
 semi_few left at h =
     let z = at_spot Semi at in
     rule_few left h.1 z h.0 h.2 (h.3.names_are (z ∷ [])) (h.3.joints_are (z ∷ [])) (h.3.plain (z ∷ []) (plain_semi at [] (λ d. refl))) h.4
@@ -253,11 +264,14 @@ step_next (Named d) Open at left r h =
     goes left Open at (Wanted (suc d)) refl (suc h.0, in_pattern left (at_spot Open at) (suc h.0) h.0 (suc h.0) (suc h.0) 0 1 (omega arith) (omega arith) h.1.3 (adds_open at) h.1)
 step_next (Named d) t at left r h = pattern_next left at d t h.0 h.1
 step_next (Closed d) t at left r h = pattern_next left at d t h.0 h.1
-step_next External (Integer e) at left r h = by_cond left (Integer e) at (is_small e) (Some Numbered) None (goes left (Integer e) at Numbered refl (more_tail left (at_spot (Integer e) at) (plain_integer e at) h)) tt
-step_next Numbered Open at left r h = goes left Open at Pricing refl (more_tail left (at_spot Open at) (plain_open at) h)
+step_next External (Integer e) at left r h = by_cond left (Integer e) at (is_small e) (Some Numbered) None (goes left (Integer e) at Numbered refl (more_tail false false left (at_spot (Integer e) at) (plain_integer false e at) h)) tt
+step_next Numbered Open at left r h = goes left Open at Pricing refl (more_tail false true left (at_spot Open at) (plain_open at) h)
 step_next Numbered Semi at left r h = few left Semi at Ruling refl (semi_few left at h)
-step_next Pricing (Integer c) at left r h = goes left (Integer c) at Priced refl (more_tail left (at_spot (Integer c) at) (plain_integer c at) h)
-step_next Priced Close at left r h = goes left Close at Finishing refl (more_tail left (at_spot Close at) (plain_close at) h)
+step_next Pricing (Integer c) at left r h = goes left (Integer c) at Priced refl (more_tail true true left (at_spot (Integer c) at) (plain_integer true c at) h)
+step_next Priced Close at left r h = goes left Close at Finishing refl (more_tail true false left (at_spot Close at) (plain_close at) h)
+step_next Priced Comma at left r h = goes left Comma at Pairing refl (more_tail true true left (at_spot Comma at) (plain_comma at) h)
+step_next Pairing (Integer c) at left r h = goes left (Integer c) at Paired refl (more_tail true true left (at_spot (Integer c) at) (plain_integer true c at) h)
+step_next Paired Close at left r h = goes left Close at Finishing refl (more_tail true false left (at_spot Close at) (plain_close at) h)
 step_next Finishing Semi at left r h = few left Semi at Ruling refl (semi_few left at h)
 step_next _ _ at left r h = tt
 

@@ -1,6 +1,6 @@
 -- The number of a name in a list of names, and lists to which names are added.
-use Rattle.std.proofs.Common.{◌≡◌, ℕ, suc, ◌+◌, ◌<◌, ◌≤◌, List, [], ◌∷◌, ◌++◌, Bool, true, false, length, refl, ap, sym, ◌∙◌, arith, cond, ◌||◌, map}
-use Rattle.std.specs.Prelude.{nat_lt, not, bytes_eq, if◌then◌else◌}
+use Rattle.std.proofs.Common.{◌≡◌, ℕ, suc, ◌+◌, ◌<◌, ◌≤◌, List, [], ◌∷◌, Bool, true, false, length, refl, ap, sym, ◌∙◌, arith, cond, ◌||◌, map}
+use Rattle.std.specs.Prelude.{nat_lt, not, bytes_eq}
 use Rattle.std.specs.List.{prefix_len, list_any, position_or_len}
 use Rattle.std.proofs.lemmas.List.{length-map}
 use Rattle.sel_grammar_text.specs.Names.{number_of, is_among}

@@ -1,5 +1,5 @@
 -- The number of a name stays where names are added behind it.
-use Rattle.std.proofs.Common.{◌≡◌, ℕ, suc, ◌+◌, ◌<◌, List, [], ◌∷◌, ◌++◌, Bool, true, false, length, refl, ap, sym, ◌∙◌, arith, cond, eqb, ◌||◌, ◌&&◌, map}
+use Rattle.std.proofs.Common.{◌≡◌, ℕ, ◌+◌, List, [], ◌∷◌, ◌++◌, Bool, true, false, refl, ap, ◌∙◌, arith, cond, eqb, ◌||◌, ◌&&◌, map}
 use Rattle.std.specs.Prelude.{not, bytes_eq}
 use Rattle.std.proofs.lemmas.Slice.Eq.{bytes_eq-Decides}
 use Rattle.sel_grammar_text.specs.declared.pattern.PatternName.TheVariants.{Operator, Nonterminal}
@@ -7,8 +7,7 @@ use Rattle.std.specs.List.{AllByRecursion}
 use Rattle.sel_grammar_text.specs.Items.{Word, RuleText}
 use Rattle.sel_grammar_text.specs.Names.{number_of, is_among, leaves, nonterminal_words, with_words}
 use Rattle.sel_grammar_text.specs.Patterns.{numbered, built}
-use Rattle.sel_grammar_text.specs.Meaning.{parts_of_tail, cost_number, range_of, external_of}
-use Rattle.sel_grammar.specs.declared.grammar.Rule.{Rule}
+use Rattle.sel_grammar_text.specs.Meaning.{parts_of_tail, cost_of, range_of, external_of}
 use Rattle.sel_grammar_text.specs.Tables.{rule_at}
 
 pub among_more : (names : List (List ℕ)) (name more : List ℕ) → is_among names name ≡ true → is_among (names ++ (more ∷ [])) name ≡ true
@@ -102,7 +101,7 @@ rule_stays line column ops nts words r left pattern =
       left = number_of nts r.left.bytes;
       pattern = (built names).0;
       template = record { parts = parts_of_tail r.tail };
-      cost = record { first = cost_number r.tail; second = 0 };
+      cost = cost_of r.tail;
       range = range_of r.tail;
       external = external_of r.tail;
       line = line;

@@ -1,13 +1,13 @@
 -- What is known of an item that passed its checks.
-use Rattle.std.proofs.Common.{◌≡◌, ℕ, suc, ◌+◌, ◌<◌, ◌≤◌, List, [], ◌∷◌, ◌++◌, Option, Some, None, Bool, true, false, length, refl, ap, sym, ◌∙◌, arith, cond, ◌||◌}
-use Rattle.std.specs.Prelude.{not, nat_lt, nat_le}
+use Rattle.std.proofs.Common.{◌≡◌, ℕ, ◌≤◌, List, [], ◌∷◌, ◌++◌, Option, Some, None, Bool, true, false, length, refl, arith, cond, ◌||◌}
+use Rattle.std.specs.Prelude.{nat_lt, nat_le}
 use Rattle.std.specs.List.{AllByRecursion}
 use Rattle.std.proofs.Common.{length-append}
 use Rattle.sel_grammar.specs.Limits as limits
 use Rattle.sel_grammar.specs.Limits.{most_kids, most_nonterminals}
 use Rattle.sel_grammar_text.specs.declared.fault.Fault.{Fault}
-use Rattle.sel_grammar_text.specs.Items.{Word, RuleText, Item, RuleItem}
-use Rattle.sel_grammar_text.specs.Names.{is_among, operators, rules, uses, first_use, with_words}
+use Rattle.sel_grammar_text.specs.Items.{Word, Item}
+use Rattle.sel_grammar_text.specs.Names.{is_among, first_use, with_words}
 use Rattle.sel_grammar_text.specs.Faults.{fault_at, or_fault}
 use Rattle.sel_grammar_text.specs.Checks as checks
 use Rattle.sel_grammar_text.specs.Checks.{past_most, first_wrong_kids, has_wrong_kids, differs}

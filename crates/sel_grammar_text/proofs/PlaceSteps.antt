@@ -1,8 +1,8 @@
 -- The place behind bytes one by one.
-use Rattle.std.proofs.Common.{◌≡◌, ℕ, suc, ◌+◌, List, [], ◌∷◌, ◌++◌, Bool, true, false, refl, ap, sym, ◌∙◌, subst, arith, append_assoc, append-nil, cond, eqb, if◌then◌else◌}
+use Rattle.std.proofs.Common.{◌≡◌, ℕ, ◌+◌, List, [], ◌∷◌, ◌++◌, Bool, true, false, refl, ap, sym, ◌∙◌, subst, arith, append_assoc, append-nil, cond, eqb, if◌then◌else◌}
 use Rattle.std.proofs.lemmas.List.{reverse-append}
 use Rattle.std.proofs.lemmas.List.Sums.{sum_by_push}
-use Rattle.std.specs.Prelude.{count_by, not, reverse}
+use Rattle.std.specs.Prelude.{count_by, not}
 use Rattle.std.specs.List.{suffix_len, prefix_len}
 use Rattle.sel_grammar_text.specs.Places.{IsPlaceBehind}
 use Rattle.sel_grammar_text.specs.declared.place.Place.{Place}

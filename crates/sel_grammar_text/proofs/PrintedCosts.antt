@@ -1,5 +1,5 @@
 -- A printed cost is read again.
-use Rattle.std.proofs.Common.{◌≡◌, ℕ, suc, zero, ◌+◌, ◌-◌, ◌^◌, ◌≤◌, ◌<◌, List, [], ◌∷◌, ◌++◌, Option, Some, None, Bool, true, false, length, drop, refl, ap, sym, ◌∙◌, subst, arith, cond, eqb, ◌&&◌, append-nil, length-append}
+use Rattle.std.proofs.Common.{◌≡◌, ℕ, suc, zero, ◌+◌, ◌-◌, ◌^◌, ◌≤◌, ◌<◌, List, [], ◌∷◌, ◌++◌, Option, Some, None, Bool, true, false, length, drop, refl, ap, sym, ◌∙◌, subst, arith, cond, eqb, ◌&&◌, append-nil, append_assoc, length-drop}
 use Rattle.std.specs.Prelude.{codes, decimal, ℤ, pos, negsuc, neg_ℤ, nat_lt, nat_le, take_while}
 use Rattle.std.specs.Fmt.{signed_decimal}
 use Rattle.std.specs.Char.{is_ascii_digit}
@@ -8,15 +8,17 @@ use Rattle.std.proofs.lemmas.Fmt.{decimal_is_IsNumeral}
 use Rattle.std.proofs.lemmas.Str.Parse.{digit_from_value}
 use Rattle.std.specs.Int.{IsInRange}
 use Rattle.sel_base.specs.declared.range.Range.{Range}
+use Rattle.sel_grammar.specs.declared.grammar.RuleCost.{RuleCost}
 use Rattle.sel_grammar.specs.Names.{is_name_byte}
 use Rattle.sel_grammar_text.specs.Blanks.{behind_blank, skip}
-use Rattle.sel_grammar_text.specs.Items.{Word, word, Amount, Ranged}
-use Rattle.sel_grammar_text.specs.CostText.{CostToken, CostName, Digits, Negative, Single, cost_width, cost_token, cost_tokens_to, begins_with_digit, read_cost, cost_in}
+use Rattle.sel_grammar_text.specs.Items.{Word, word, AmountText, CostText, Amount, Ranged}
+use Rattle.sel_grammar_text.specs.CostText.{CostToken, CostName, Digits, Negative, Single, cost_width, cost_token, cost_tokens_to, begins_with_digit, and_then, read_amount, read_addend, read_cost, cost_in}
 use Rattle.sel_grammar.specs.Limits.{greatest_cost}
-use Rattle.sel_grammar_text.specs.Checks.{begins_with_minus, large_bound, large_cost, place_if}
-use Rattle.sel_grammar_text.specs.Meaning.{bound_of}
-use Rattle.sel_grammar_text.specs.PrintedGrammar.{printed_cost, printed_addend}
-use Rattle.sel_grammar_text.proofs.Blanks.{skip_one, skip_none}
+use Rattle.sel_grammar_text.specs.Checks.{or_place, begins_with_minus, large_bound, large_cost, large_option, large_amount, large_amount_if_any, place_if}
+use Rattle.sel_grammar_text.specs.Meaning.{bound_of, number_or_0, amount_cost, amount_or_none}
+use Rattle.sel_grammar_text.specs.PrintedGrammar.{printed_amount, printed_cost, printed_addend}
+use Rattle.sel_grammar_text.proofs.Blanks.{skip_one, skip_none, skip_short}
+use Rattle.sel_grammar_text.proofs.CostSteps.{token_wide}
 use Rattle.sel_grammar_text.proofs.Templates.{unequal}
 use Rattle.sel_grammar_text.proofs.Printed.{Stops, Each, taken}
 use Rattle.sel_grammar_text.proofs.PrintedTokens.{IsNumber, no_blank, no_comment, no_letter, drop_front, tells}
@@ -115,81 +117,146 @@ costs_bound : (z : ℤ) (rest : List ℕ) (ts : List CostToken) → IsBound z �
 costs_bound (pos n) rest ts h s k = costs_digits (decimal n) rest ts (decimal_number n (omega arith)) s k
 costs_bound (negsuc n) rest ts h s k = costs_negative (decimal (suc n)) rest ts (decimal_number (suc n) (omega arith)) s k
 
-abbrev addend_tokens : ℕ → List CostToken
-addend_tokens zero = []
-addend_tokens (suc n) = Single 43 ∷ Digits (decimal (suc n)) ∷ []
+-- the second number of a pair isn't 0
+pub not_zero : (n : ℕ) → eqb (suc n) 0 ≡ false
+not_zero n = unequal (suc n) 0 (λ e. omega arith)
 
-costs_addend : (cost : ℕ) → cost < 2 ^ 64 → Costs (printed_addend cost) (addend_tokens cost)
-costs_addend zero h = costs_none [] refl
-costs_addend (suc n) h = subst (λ x. Costs x (addend_tokens (suc n))) (sym (ap (λ t. cond t [] (43 ∷ decimal (suc n))) (unequal (suc n) 0 (λ e. omega arith)))) (costs_token 43 (decimal (suc n)) (decimal (suc n)) (Single 43) _ (no_comment 43 (decimal (suc n)) refl) refl refl
-    (subst (λ x. Costs x (Digits (decimal (suc n)) ∷ [])) (append-nil (decimal (suc n))) (costs_digits (decimal (suc n)) [] [] (decimal_number (suc n) h) tt (costs_none [] refl))))
+abbrev pub pair : ℕ → ℕ → RuleCost
+pair m n = record { first = m; second = n }
 
-abbrev range_tokens : Range → ℕ → List CostToken
-range_tokens range cost = CostName (codes "range") ∷ Single 40 ∷ CostName (codes "a") ∷ Single 44 ∷ bound_token range.lo ∷ Single 44 ∷ bound_token range.hi ∷ Single 41 ∷ addend_tokens cost
+abbrev amount_tokens : ℕ → ℕ → List CostToken
+amount_tokens m zero = Digits (decimal m) ∷ []
+amount_tokens m (suc n) = Single 40 ∷ Digits (decimal m) ∷ Single 44 ∷ Digits (decimal (suc n)) ∷ Single 41 ∷ []
 
-costs_range : (range : Range) (cost : ℕ) → cost < 2 ^ 64 → IsBound range.lo → IsBound range.hi → Costs (printed_cost cost (Some range)) (range_tokens range cost)
-costs_range range cost h lo hi =
-    let end = 41 ∷ printed_addend cost in
+costs_amount : (m n : ℕ) → m < 2 ^ 64 → n < 2 ^ 64 → Costs (printed_amount (pair m n)) (amount_tokens m n)
+costs_amount m zero h k = subst (λ x. Costs x (Digits (decimal m) ∷ [])) (append-nil (decimal m)) (costs_digits (decimal m) [] [] (decimal_number m h) tt (costs_none [] refl))
+costs_amount m (suc n) h k =
+    let end = decimal (suc n) ++ (41 ∷ []) in
+    let front = decimal m ++ (44 ∷ end) in
+    subst (λ x. Costs x (amount_tokens m (suc n))) (sym (ap (λ t. cond t (decimal m) (40 ∷ front)) (not_zero n)))
+    (costs_token 40 front front (Single 40) _ (no_comment 40 front refl) refl refl
+    (costs_digits (decimal m) (44 ∷ end) _ (decimal_number m h) refl
+    (costs_token 44 end end (Single 44) _ (no_comment 44 end refl) refl refl
+    (costs_digits (decimal (suc n)) (41 ∷ []) _ (decimal_number (suc n) k) refl
+    (costs_token 41 [] [] (Single 41) [] (no_comment 41 [] refl) refl refl (costs_none [] refl))))))
+
+abbrev addend_tokens : ℕ → ℕ → List CostToken
+addend_tokens zero zero = []
+addend_tokens zero (suc n) = Single 43 ∷ amount_tokens zero (suc n)
+addend_tokens (suc m) n = Single 43 ∷ amount_tokens (suc m) n
+
+costs_plus : (m n : ℕ) → m < 2 ^ 64 → n < 2 ^ 64 → Costs (43 ∷ printed_amount (pair m n)) (Single 43 ∷ amount_tokens m n)
+costs_plus m n h k = costs_token 43 (printed_amount (pair m n)) (printed_amount (pair m n)) (Single 43) _ (no_comment 43 (printed_amount (pair m n)) refl) refl refl (costs_amount m n h k)
+
+costs_addend : (m n : ℕ) → m < 2 ^ 64 → n < 2 ^ 64 → Costs (printed_addend (pair m n)) (addend_tokens m n)
+costs_addend zero zero h k = costs_none [] refl
+costs_addend zero (suc n) h k =
+    subst (λ x. Costs x (addend_tokens zero (suc n))) (sym (ap (λ t. cond t [] (43 ∷ printed_amount (pair zero (suc n)))) (not_zero n))) (costs_plus zero (suc n) h k)
+costs_addend (suc m) n h k =
+    subst (λ x. Costs x (addend_tokens (suc m) n)) (sym (ap (λ t. cond (t && eqb n 0) [] (43 ∷ printed_amount (pair (suc m) n))) (not_zero m))) (costs_plus (suc m) n h k)
+
+abbrev range_tokens : Range → ℕ → ℕ → List CostToken
+range_tokens range m n = CostName (codes "range") ∷ Single 40 ∷ CostName (codes "a") ∷ Single 44 ∷ bound_token range.lo ∷ Single 44 ∷ bound_token range.hi ∷ Single 41 ∷ addend_tokens m n
+
+-- a range's pieces, one behind the other
+pub range_parts : (range : Range) (cost : RuleCost) → printed_cost cost (Some range) ≡ codes "range(a," ++ (signed_decimal range.lo ++ (codes "," ++ (signed_decimal range.hi ++ (codes ")" ++ printed_addend cost))))
+range_parts range cost = regroup (signed_decimal range.lo) (signed_decimal range.hi) (printed_addend cost)
+  where
+    regroup : (lo hi addend : List ℕ) → (codes "range(a," ++ (lo ++ (codes "," ++ (hi ++ codes ")")))) ++ addend ≡ codes "range(a," ++ (lo ++ (codes "," ++ (hi ++ (codes ")" ++ addend))))
+    regroup lo hi addend = simp append_assoc refl
+
+costs_range : (range : Range) (m n : ℕ) → m < 2 ^ 64 → n < 2 ^ 64 → IsBound range.lo → IsBound range.hi → Costs (printed_cost (pair m n) (Some range)) (range_tokens range m n)
+costs_range range m n h k lo hi =
+    let end = 41 ∷ printed_addend (pair m n) in
     let second = 44 ∷ (signed_decimal range.hi ++ end) in
     let first = 44 ∷ (signed_decimal range.lo ++ second) in
-    costs_token 114 _ (40 ∷ 97 ∷ first) (CostName (codes "range")) _ refl refl refl
+    subst (λ x. Costs x (range_tokens range m n)) (sym (range_parts range (pair m n)))
+    (costs_token 114 _ (40 ∷ 97 ∷ first) (CostName (codes "range")) _ refl refl refl
     (costs_token 40 (97 ∷ first) (97 ∷ first) (Single 40) _ refl refl refl
     (costs_token 97 first first (CostName (codes "a")) _ refl refl refl
     (costs_token 44 (signed_decimal range.lo ++ second) _ (Single 44) _ (no_comment 44 _ refl) refl refl
     (costs_bound range.lo second _ lo refl
     (costs_token 44 (signed_decimal range.hi ++ end) _ (Single 44) _ (no_comment 44 _ refl) refl refl
     (costs_bound range.hi end _ hi refl
-    (costs_token 41 (printed_addend cost) _ (Single 41) _ (no_comment 41 _ refl) refl refl (costs_addend cost h))))))))
+    (costs_token 41 (printed_addend (pair m n)) _ (Single 41) _ (no_comment 41 _ refl) refl refl (costs_addend m n h k)))))))))
 
 -- What a printed cost is read as.
-abbrev pub addend_word : ℕ → ℕ → Option Word
-addend_word p zero = None
-addend_word p (suc n) = Some (word p (decimal (suc n)))
 
-pub amount_in : (at cost : ℕ) → cost < 2 ^ 64 → (p : ℕ) × (cost_in at (32 ∷ decimal cost) ≡ Some (Amount (word p (decimal cost))))
+-- the amount's numbers at their places
+abbrev pub amount_word : ℕ → ℕ → ℕ → ℕ → AmountText
+amount_word p q m zero = record { first = word p (decimal m); second = None }
+amount_word p q m (suc n) = record { first = word p (decimal m); second = Some (word q (decimal (suc n))) }
+
+-- a pair's first number stands behind the parenthesis
+abbrev pub amount_place : List ℕ → ℕ → ℕ
+amount_place ps zero = first_of ps
+amount_place ps (suc n) = first_of (rest_of ps)
+
+abbrev pub second_place : List ℕ → ℕ
+second_place ps = first_of (rest_of (rest_of (rest_of ps)))
+
+abbrev pub amount_at : List ℕ → ℕ → ℕ → AmountText
+amount_at ps m n = amount_word (amount_place ps n) (second_place ps) m n
+
+abbrev pub addend_at : List ℕ → ℕ → ℕ → Option AmountText
+addend_at ps zero zero = None
+addend_at ps zero (suc n) = Some (amount_at (rest_of ps) zero (suc n))
+addend_at ps (suc m) n = Some (amount_at (rest_of ps) (suc m) n)
+
+amount_again : (ps : List ℕ) (m n : ℕ) → read_amount (placed ps (amount_tokens m n)) ≡ Some (amount_at ps m n)
+amount_again ps m zero = refl
+amount_again ps m (suc n) = refl
+
+addend_again : (ps : List ℕ) (m n : ℕ) → read_addend (placed ps (addend_tokens m n)) ≡ Some (addend_at ps m n)
+addend_again ps zero zero = refl
+addend_again ps zero (suc n) = refl
+addend_again ps (suc m) n = ap (λ o. and_then o (λ a. Some (Some a))) (amount_again (rest_of ps) (suc m) n)
+
+cost_again : (ps : List ℕ) (m n : ℕ) → read_cost (placed ps (amount_tokens m n)) ≡ Some (Amount (amount_at ps m n))
+cost_again ps m zero = refl
+cost_again ps m (suc n) = refl
+
+-- no more tokens than bytes
+tokens_fit : (bytes : List ℕ) (ts : List CostToken) → Costs bytes ts → length ts ≤ length bytes
+tokens_fit bytes _ (costs_none _ e) = omega arith
+tokens_fit bytes _ (costs_one _ b more t ts e d k) =
+    let w = cost_width t in
+    let shorter = tokens_fit (drop w (b ∷ more)) ts k in
+    let front : length (b ∷ more) ≤ length bytes = subst (λ x. length x ≤ length bytes) e (skip_short bytes) in
+    let wide : 0 < w = subst (λ x. 0 < cost_width x) d (token_wide b more) in
+    omega (arith, shorter, front, wide, length-drop w (b ∷ more))
+
+cost_placed : (at : ℕ) (bytes : List ℕ) (ts : List CostToken) → Costs bytes ts → (ps : List ℕ) × (cost_in at bytes ≡ read_cost (placed ps ts))
 unfolding cost_in
-amount_in at cost h =
-    let c : Costs (32 ∷ decimal cost) (Digits (decimal cost) ∷ []) = costs_space (decimal cost) _
-    (subst (λ x. Costs x (Digits (decimal cost) ∷ [])) (append-nil (decimal cost)) (costs_digits (decimal cost) [] [] (decimal_number cost h) tt (costs_none [] refl))) in
-    let t = tokens_placed (32 ∷ decimal cost) (Digits (decimal cost) ∷ []) (length (32 ∷ decimal cost)) at c (omega arith) in
-    (first_of t.0, ap read_cost t.1)
+cost_placed at bytes ts c = let t = tokens_placed bytes ts (length bytes) at c (tokens_fit bytes ts c) in (t.0, ap read_cost t.1)
 
-abbrev fifth : List ℕ → ℕ
+pub amount_in : (at m n : ℕ) → m < 2 ^ 64 → n < 2 ^ 64 → (ps : List ℕ) × (cost_in at (32 ∷ printed_amount (pair m n)) ≡ Some (Amount (amount_at ps m n)))
+amount_in at m n h k =
+    let c = cost_placed at (32 ∷ printed_amount (pair m n)) (amount_tokens m n) (costs_space (printed_amount (pair m n)) _ (costs_amount m n h k)) in (c.0, c.1 ∙ cost_again c.0 m n)
+
+abbrev pub fifth : List ℕ → ℕ
 fifth ps = first_of (rest_of (rest_of (rest_of (rest_of ps))))
 
-abbrev seventh : List ℕ → ℕ
+abbrev pub seventh : List ℕ → ℕ
 seventh ps = first_of (rest_of (rest_of (rest_of (rest_of (rest_of (rest_of ps))))))
 
-abbrev tenth : List ℕ → ℕ
-tenth ps = first_of (rest_of (rest_of (rest_of (rest_of (rest_of (rest_of (rest_of (rest_of (rest_of ps)))))))))
+abbrev pub behind_eighth : List ℕ → List ℕ
+behind_eighth ps = rest_of (rest_of (rest_of (rest_of (rest_of (rest_of (rest_of (rest_of ps)))))))
 
-range_read : (ps : List ℕ) (lo hi : ℤ) (cost : ℕ) → read_cost (placed ps (range_tokens (record { lo = lo; hi = hi }) cost))
-    ≡ Some (Ranged (first_of ps) (word (fifth ps) (signed_decimal lo)) (word (seventh ps) (signed_decimal hi)) (addend_word (tenth ps) cost))
-range_read ps (pos l) (pos h) zero = refl
-range_read ps (pos l) (negsuc h) zero = refl
-range_read ps (negsuc l) (pos h) zero = refl
-range_read ps (negsuc l) (negsuc h) zero = refl
-range_read ps (pos l) (pos h) (suc n) = refl
-range_read ps (pos l) (negsuc h) (suc n) = refl
-range_read ps (negsuc l) (pos h) (suc n) = refl
-range_read ps (negsuc l) (negsuc h) (suc n) = refl
+abbrev pub ranged : List ℕ → ℤ → ℤ → Option AmountText → CostText
+ranged ps lo hi addend = Ranged (first_of ps) (word (fifth ps) (signed_decimal lo)) (word (seventh ps) (signed_decimal hi)) addend
 
-enough_bytes : (range : Range) (cost : ℕ) → length (range_tokens range cost) ≤ length (32 ∷ printed_cost cost (Some range))
-enough_bytes range zero = omega (arith, length-append (codes "range(a,") (signed_decimal range.lo ++ (codes "," ++ (signed_decimal range.hi ++ (codes ")" ++ printed_addend 0)))))
-enough_bytes range (suc n) =
-    omega (
-      arith,
-      length-append (codes "range(a,") (signed_decimal range.lo ++ (codes "," ++ (signed_decimal range.hi ++ (codes ")" ++ printed_addend (suc n))))),
-      length-append (signed_decimal range.lo) (codes "," ++ (signed_decimal range.hi ++ (codes ")" ++ printed_addend (suc n)))),
-    )
+range_again : (ps : List ℕ) (lo hi : ℤ) (m n : ℕ) → read_cost (placed ps (range_tokens (record { lo = lo; hi = hi }) m n)) ≡ Some (ranged ps lo hi (addend_at (behind_eighth ps) m n))
+range_again ps (pos l) (pos h) m n = ap (λ o. and_then o (λ addend. Some (ranged ps (pos l) (pos h) addend))) (addend_again (behind_eighth ps) m n)
+range_again ps (pos l) (negsuc h) m n = ap (λ o. and_then o (λ addend. Some (ranged ps (pos l) (negsuc h) addend))) (addend_again (behind_eighth ps) m n)
+range_again ps (negsuc l) (pos h) m n = ap (λ o. and_then o (λ addend. Some (ranged ps (negsuc l) (pos h) addend))) (addend_again (behind_eighth ps) m n)
+range_again ps (negsuc l) (negsuc h) m n = ap (λ o. and_then o (λ addend. Some (ranged ps (negsuc l) (negsuc h) addend))) (addend_again (behind_eighth ps) m n)
 
-pub range_in : (at cost : ℕ) (range : Range) → cost < 2 ^ 64 → IsBound range.lo → IsBound range.hi
-    → (p q s t : ℕ) × (cost_in at (32 ∷ printed_cost cost (Some range)) ≡ Some (Ranged p (word q (signed_decimal range.lo)) (word s (signed_decimal range.hi)) (addend_word t cost)))
-unfolding cost_in
-range_in at cost range h lo hi =
-    let bytes = 32 ∷ printed_cost cost (Some range) in
-    let t = tokens_placed bytes (range_tokens range cost) (length bytes) at (costs_space (printed_cost cost (Some range)) _ (costs_range range cost h lo hi)) (enough_bytes range cost) in
-    (first_of t.0, fifth t.0, seventh t.0, tenth t.0, ap read_cost t.1 ∙ range_read t.0 range.lo range.hi cost)
+pub range_in : (at m n : ℕ) (range : Range) → m < 2 ^ 64 → n < 2 ^ 64 → IsBound range.lo → IsBound range.hi
+    → (ps : List ℕ) × (cost_in at (32 ∷ printed_cost (pair m n) (Some range)) ≡ Some (ranged ps range.lo range.hi (addend_at (behind_eighth ps) m n)))
+range_in at m n range h k lo hi =
+    let bytes = printed_cost (pair m n) (Some range) in
+    let c = cost_placed at (32 ∷ bytes) (range_tokens range m n) (costs_space bytes _ (costs_range range m n h k lo hi)) in (c.0, c.1 ∙ range_again c.0 range.lo range.hi m n)
 
 -- Values.
 
@@ -242,3 +309,38 @@ cost_fits w h = by_test (digits_value 10 w.bytes) w.at _ refl h
     by_test : (n p : ℕ) (b : Bool) → nat_lt greatest_cost n ≡ b → place_if b p ≡ None → n ≤ greatest_cost
     by_test n p true e h = cc
     by_test n p false e h = grind (arith, e)
+
+pub or_place_none : (a b : Option ℕ) → or_place a b ≡ None → (a ≡ None) × (b ≡ None)
+or_place_none (Some p) b h = cc
+or_place_none None b h = (refl, h)
+
+number_fits : (w : Option Word) → large_option w ≡ None → number_or_0 w ≤ greatest_cost
+number_fits None h = omega arith
+number_fits (Some w) h = cost_fits w h
+
+-- the numbers of a cost that a text has are in their limits
+pub amount_fits : (a : Option AmountText) → large_amount_if_any a ≡ None → ((amount_or_none a).first ≤ greatest_cost) × ((amount_or_none a).second ≤ greatest_cost)
+amount_fits None h = (omega arith, omega arith)
+amount_fits (Some a) h = let b = or_place_none (large_cost a.first) (large_option a.second) h in (cost_fits a.first b.0, number_fits a.second b.1)
+
+pub pair_so : (a : Option AmountText) → amount_or_none a ≡ pair (amount_or_none a).first (amount_or_none a).second
+pair_so None = refl
+pair_so (Some a) = refl
+
+pub amount_value : (p q m n : ℕ) → m ≤ greatest_cost → n ≤ greatest_cost → amount_cost (amount_word p q m n) ≡ pair m n
+amount_value p q m zero h k = ap (λ x. pair x zero) (decimal_value m (omega (arith, h)))
+amount_value p q m (suc n) h k = ap (λ x. pair x (digits_value 10 (decimal (suc n)))) (decimal_value m (omega (arith, h))) ∙ ap (pair m) (decimal_value (suc n) (omega (arith, k)))
+
+pub amount_small : (p q m n : ℕ) → m ≤ greatest_cost → n ≤ greatest_cost → large_amount (amount_word p q m n) ≡ None
+amount_small p q m zero h k = ap (λ o. or_place o None) (cost_small m p h)
+amount_small p q m (suc n) h k = ap (λ o. or_place o (large_cost (word q (decimal (suc n))))) (cost_small m p h) ∙ cost_small (suc n) q k
+
+pub addend_value : (ps : List ℕ) (m n : ℕ) → m ≤ greatest_cost → n ≤ greatest_cost → amount_or_none (addend_at ps m n) ≡ pair m n
+addend_value ps zero zero h k = refl
+addend_value ps zero (suc n) h k = amount_value (amount_place (rest_of ps) (suc n)) (second_place (rest_of ps)) zero (suc n) h k
+addend_value ps (suc m) n h k = amount_value (amount_place (rest_of ps) n) (second_place (rest_of ps)) (suc m) n h k
+
+pub addend_small : (ps : List ℕ) (m n : ℕ) → m ≤ greatest_cost → n ≤ greatest_cost → large_amount_if_any (addend_at ps m n) ≡ None
+addend_small ps zero zero h k = refl
+addend_small ps zero (suc n) h k = amount_small (amount_place (rest_of ps) (suc n)) (second_place (rest_of ps)) zero (suc n) h k
+addend_small ps (suc m) n h k = amount_small (amount_place (rest_of ps) n) (second_place (rest_of ps)) (suc m) n h k

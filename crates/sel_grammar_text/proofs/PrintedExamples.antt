@@ -1,10 +1,10 @@
 -- Small grammars, printed.
-use Rattle.std.proofs.Common.{◌≡◌, ℕ, List, [], ◌∷◌, Option, Some, None, refl, arith, ◌<◌}
-use Rattle.std.specs.Prelude.{codes, ℤ, pos, negsuc}
+use Rattle.std.proofs.Common.{◌≡◌, List, [], ◌∷◌, Some, None, refl, arith}
+use Rattle.std.specs.Prelude.{codes, pos, negsuc}
 use Rattle.std.proofs.lemmas.Fmt.{decimal_digit}
 use Rattle.sel_grammar.specs.declared.grammar.Operator.{Operator}
 use Rattle.sel_grammar.specs.declared.grammar.Part.TheVariants.{Text, Kid, Attribute, Temp}
-use Rattle.sel_grammar.specs.declared.grammar.Pattern.{Pattern, Leaf, Nullary, Binary}
+use Rattle.sel_grammar.specs.declared.grammar.Pattern.{Leaf, Nullary, Binary}
 use Rattle.sel_grammar.specs.declared.grammar.Pattern.TheBlock.{shape-the_row-Pattern-0, hidden-the_row-Pattern-0}
 use denote.Hole.Carrier.{hidden}
 use Rattle.sel_grammar_text.specs.PrintedGrammar.{printed}
@@ -35,3 +35,16 @@ escapes : printed (record {
 unfolding printed
 escapes =
     rw (decimal_digit 2 (omega arith), decimal_digit 1 (omega arith), decimal_digit 0 (omega arith), decimal_digit 4 (omega arith), decimal_digit 8 (omega arith), decimal_digit 9 (omega arith), decimal_digit 3 (omega arith)) refl
+
+-- costs of two numbers
+pairs : printed (record {
+  start = 0;
+  operators = operators;
+  nonterminals = codes "reg" ∷ [];
+  rules = record { left = 0; pattern = Nullary 1; template = record { parts = [] }; cost = record { first = 1; second = 3 }; range = None; external = Some 7; line = 4; column = 1 }
+      ∷ record { left = 0; pattern = Nullary 1; template = record { parts = [] }; cost = record { first = 0; second = 4 }; range = None; external = None; line = 5; column = 1 }
+      ∷ record { left = 0; pattern = Nullary 1; template = record { parts = [] }; cost = record { first = 0; second = 2 }; range = Some (record { lo = pos 1; hi = pos 9 }); external = None; line = 6; column = 1 } ∷ [];
+}) ≡ codes "%start reg\n%term ADD=2\n%term REG=1\n%%\nreg: REG = 7 (1,3);\nreg: REG \"\" (0,4)\nreg: REG \"\" range(a,1,9)+(0,2)\n"
+unfolding printed
+pairs =
+    rw (decimal_digit 2 (omega arith), decimal_digit 1 (omega arith), decimal_digit 7 (omega arith), decimal_digit 3 (omega arith), decimal_digit 0 (omega arith), decimal_digit 4 (omega arith), decimal_digit 9 (omega arith)) refl

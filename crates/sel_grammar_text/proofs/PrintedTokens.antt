@@ -155,13 +155,14 @@ cuts_rule left root kids tail ts rest l r ks s k =
     (over_blank 32 ((root ++ patterns_text below kids) ++ tail) (Name root) (pattern_tokens below kids ++ ts) rest refl
     (simp append_assoc (cuts_name root (patterns_text below kids ++ tail) (pattern_tokens below kids ++ ts) rest r (stops_patterns below kids tail s) (cuts_patterns below kids tail ts rest ks s k)))))
 
-pub cuts_burg : (external cost more : List ℕ) (t : Token) (ts : List Token) (rest : List ℕ) → IsNumber external → IsNumber cost → CutsInto more (t ∷ ts) rest
-    → CutsInto (codes " = " ++ (external ++ (codes " (" ++ (cost ++ (codes ");\n" ++ more))))) (Equals ∷ Integer external ∷ Open ∷ Integer cost ∷ Close ∷ Semi ∷ t ∷ ts) rest
-cuts_burg external cost more t ts rest e c k =
-    let close = 41 ∷ 59 ∷ 10 ∷ more in
+-- what stands before a cost in parentheses
+pub cuts_external : (external more : List ℕ) (ts : List Token) (rest : List ℕ) → IsNumber external → CutsInto more ts rest → CutsInto (codes " = " ++ (external ++ (codes " (" ++ more))) (Equals ∷ Integer external ∷ Open ∷ ts) rest
+cuts_external external more ts rest e k =
     over_blank 32 _ Equals _ rest refl (cuts_mark 61 Equals _ _ rest refl refl refl refl refl refl refl refl
-    (over_blank 32 (external ++ (32 ∷ 40 ∷ (cost ++ close))) (Integer external) _ rest refl (cuts_number external (32 ∷ 40 ∷ (cost ++ close)) _ rest e refl
-    (over_blank 32 (40 ∷ (cost ++ close)) Open _ rest refl (cuts_mark 40 Open (cost ++ close) _ rest refl refl refl refl refl refl refl refl
-    (cuts_number cost close _ rest c refl
-    (cuts_mark 41 Close (59 ∷ 10 ∷ more) _ rest refl refl refl refl refl refl refl refl
-    (cuts_mark 59 Semi (10 ∷ more) _ rest refl refl refl refl refl refl refl refl (over_blank 10 more t ts rest refl k)))))))))
+    (over_blank 32 (external ++ (32 ∷ 40 ∷ more)) (Integer external) _ rest refl (cuts_number external (32 ∷ 40 ∷ more) _ rest e refl
+    (over_blank 32 (40 ∷ more) Open ts rest refl (cuts_mark 40 Open more ts rest refl refl refl refl refl refl refl refl k)))))
+
+-- what stands behind it
+pub cuts_closing : (more : List ℕ) (t : Token) (ts : List Token) (rest : List ℕ) → CutsInto more (t ∷ ts) rest → CutsInto (codes ");\n" ++ more) (Close ∷ Semi ∷ t ∷ ts) rest
+cuts_closing more t ts rest k =
+    cuts_mark 41 Close (59 ∷ 10 ∷ more) _ rest refl refl refl refl refl refl refl refl (cuts_mark 59 Semi (10 ∷ more) _ rest refl refl refl refl refl refl refl refl (over_blank 10 more t ts rest refl k))

@@ -1,18 +1,16 @@
 -- What a reader knows behind each item, and at the end.
-use Rattle.std.proofs.Common.{◌≡◌, ℕ, suc, zero, ◌+◌, ◌-◌, ◌≤◌, ◌<◌, ◌^◌, ◌⊎◌, inl, inr, List, [], ◌∷◌, ◌++◌, Option, Some, None, Bool, true, false, refl, ap, sym, ◌∙◌, subst, arith, length, take, drop, append-nil, cond, eqb}
-use Rattle.std.specs.Prelude.{count_by, not}
-use Rattle.std.specs.List.{AllByRecursion, suffix_len}
+use Rattle.std.proofs.Common.{◌≡◌, ℕ, suc, zero, ◌+◌, ◌-◌, ◌≤◌, ◌<◌, ◌^◌, ◌⊎◌, inl, inr, List, [], ◌∷◌, ◌++◌, Option, Some, None, Bool, true, false, refl, ap, sym, ◌∙◌, subst, arith, length, take, append-nil, cond, eqb}
+use Rattle.std.specs.Prelude.{not}
+use Rattle.std.specs.List.{AllByRecursion}
 use Rattle.std.proofs.lemmas.List.Sums.{count_by-le-length, suffix_len-le-length}
 use Rattle.std.proofs.Common.{length-take}
 use Rattle.sel_grammar.specs.declared.grammar.Grammar.{Grammar}
-use Rattle.sel_grammar.specs.Limits.{most_nonterminals}
 use Rattle.sel_grammar_text.specs.Blanks.{skip}
-use Rattle.sel_grammar_text.specs.Tokens.{Token, Name, Integer, Quoted, Unclosed, Start, Term, Percents, Code, OpenCode, Colon, Equals, Open, Close, Comma, Semi, Bad, End}
-use Rattle.sel_grammar_text.specs.Items.{Word, word, RuleText, Item, RuleItem}
+use Rattle.sel_grammar_text.specs.Tokens.{Token, Name, Start, Percents, Code}
+use Rattle.sel_grammar_text.specs.Items.{Word, word, Item, RuleItem}
 use Rattle.sel_grammar_text.specs.Spots.{Spot, spot, first, after, behind, tokens, first_spots, here}
-use Rattle.sel_grammar_text.specs.Names.{rules, operators, nonterminals, nonterminal_words, with_words, uses}
+use Rattle.sel_grammar_text.specs.Names.{rules}
 use Rattle.sel_grammar_text.specs.Cutting.{Cutting, cutting, with_spot, ends, item_of, named_item, entry_in, start_item, pattern_in, tail_in, is_equals}
-use Rattle.sel_grammar_text.specs.FormFaults.{HasFormFault}
 use Rattle.sel_grammar_text.specs.ItemFaults.{check, check_all}
 use Rattle.sel_grammar_text.specs.Faults.{or_fault}
 use Rattle.sel_grammar_text.specs.GrammarText.{HasFault, HasFirstFault, SpellsGrammar, at_token, end_fault, items_of}
@@ -20,8 +18,8 @@ use Rattle.sel_grammar_text.specs.Meaning.{grammar_of}
 use Rattle.sel_grammar_text.specs.Places.{IsPlaceBehind, line_of, column_of}
 use Rattle.sel_grammar_text.specs.Machine.{begin, run, is_border, is_declaring}
 use Rattle.sel_grammar_text.specs.ItemNumbers.{HasExternal}
-use Rattle.sel_grammar_text.specs.Extents.{StandsAtItem, HasExtent}
-use Rattle.sel_grammar_text.specs.Tables.{Means, IsReadyFor, IsPlaced, StandsRight, operator_names}
+use Rattle.sel_grammar_text.specs.Extents.{HasExtent}
+use Rattle.sel_grammar_text.specs.Tables.{Means, IsPlaced, StandsRight}
 use Rattle.sel_grammar_text.specs.Reading.{IsReading, IsTaken}
 use Rattle.sel_grammar_text.specs.declared.fault.Fault.{Fault}
 use Rattle.sel_grammar_text.specs.declared.form.State.{State}
@@ -31,8 +29,7 @@ use Rattle.sel_grammar_text.specs.declared.read.Position.{Position}
 use Rattle.sel_grammar_text.specs.declared.scan.Extent.{Extent}
 use Rattle.sel_grammar_text.specs.declared.tables.Tables.{Tables}
 use Rattle.sel_grammar_text.proofs.Steps.{Reached, reached_start, reached_next, reached_end, reached_end_fault, cutting-snoc}
-use Rattle.sel_grammar_text.proofs.ItemLists.{rules-append, operator_names_of}
-use Rattle.sel_grammar_text.proofs.Passes.{Passes, passes, kids_pass, few_words}
+use Rattle.sel_grammar_text.proofs.ItemLists.{rules-append}
 use Rattle.sel_grammar_text.proofs.Suffixes.{IsEnd, after_end, skip_end, end_within, fronts, within}
 
 -- The end: the grammar that the items say, or the fault behind them.

@@ -1,5 +1,5 @@
 -- An item that passed its checks has room in the tables.
-use Rattle.std.proofs.Common.{◌≡◌, ℕ, ◌≤◌, List, [], ◌∷◌, None, length, ap, sym, subst, ◌∙◌}
+use Rattle.std.proofs.Common.{◌≡◌, ℕ, ◌≤◌, List, None, length, ap, sym, subst, ◌∙◌}
 use Rattle.sel_grammar.specs.Limits.{most_nonterminals}
 use Rattle.sel_grammar_text.specs.Items.{Item, StartItem, EntryItem, CodeItem, PercentsItem, RuleItem}
 use Rattle.sel_grammar_text.specs.Names.{operators, rules, nonterminals, nonterminal_words, with_words, uses}

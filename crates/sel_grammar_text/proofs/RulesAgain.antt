@@ -9,6 +9,7 @@ use Rattle.sel_grammar.specs.Limits.{greatest_external}
 use Rattle.sel_grammar.specs.declared.grammar.Part.{Part}
 use Rattle.sel_grammar.specs.declared.grammar.Pattern.{Pattern}
 use Rattle.sel_grammar.specs.declared.grammar.Rule.{Rule}
+use Rattle.sel_grammar.specs.declared.grammar.RuleCost.{RuleCost}
 use Rattle.sel_grammar_text.specs.Tokens.{Token, Name, Colon}
 use Rattle.sel_grammar_text.specs.Form.{below, pattern_tokens, TailForm, OneLineForm, BurgForm, tail_tokens, RuleForm, rule_tokens, is_small, IsTail}
 use Rattle.sel_grammar_text.specs.Items.{Word, TailText, OneLine, Burg, RuleText, Item, RuleItem}
@@ -18,7 +19,7 @@ use Rattle.sel_grammar_text.specs.Checks.{begins_reserved, large_in_tail}
 use Rattle.sel_grammar_text.specs.TemplateText.{pieces, bad_sign}
 use Rattle.sel_grammar_text.specs.Faults.{or_fault}
 use Rattle.sel_grammar_text.specs.ItemFaults.{check, check_all}
-use Rattle.sel_grammar_text.specs.Meaning.{cost_number, range_of, parts_of_tail, external_of, rule_of}
+use Rattle.sel_grammar_text.specs.Meaning.{cost_of, range_of, parts_of_tail, external_of, rule_of}
 use Rattle.sel_grammar_text.specs.Printing.{AreParts}
 use Rattle.sel_grammar_text.specs.PrintedGrammar.{name_at, printed_pattern, printed_tail, printed_rule, without_place}
 use Rattle.sel_grammar_text.specs.declared.fault.Fault.{Fault}
@@ -202,9 +203,9 @@ pass_again ops nts before after ps (r ∷ rs) (t ∷ ts) e s g h =
     ap (λ x. or_fault x (check_all (after ++ (RuleItem u ∷ [])) (rule_items (rule_texts qs (forms_again rs ts))))) one
     ∙ pass_again ops nts (before ++ (RuleItem t ∷ [])) (after ++ (RuleItem u ∷ [])) qs rs ts e' s' g.1 o.1
 
-abbrev made : ℕ → Pattern → List Part → ℕ → Option Range → Option ℕ → Rule
+abbrev made : ℕ → Pattern → List Part → RuleCost → Option Range → Option ℕ → Rule
 made left pattern parts cost range external =
-    record { left = left; pattern = pattern; template = record { parts = parts }; cost = record { first = cost; second = 0 }; range = range; external = external; line = 0; column = 0 }
+    record { left = left; pattern = pattern; template = record { parts = parts }; cost = cost; range = range; external = external; line = 0; column = 0 }
 
 same_pattern : (ops nts : List (List ℕ)) (ns ms : List (Word × ℕ)) → plain_names ns ≡ plain_names ms → pattern_of ops nts ns ≡ pattern_of ops nts ms
 same_pattern ops nts ns ms h = ap (λ x. (built x).0) (numbered_so ops nts ns ∙ ap (map (numbered_plain ops nts)) h ∙ sym (numbered_so ops nts ms))
@@ -216,12 +217,12 @@ says_again ops nts source again ps r t g =
     let s = same_rule ops nts ps r t g in
     let k = read_tail ps r t g.tail in
     let p = pattern_of ops nts u.pattern in let l = number_of nts u.left.bytes in
-    ap (λ x. made x (pattern_of ops nts t.pattern) (parts_of_tail t.tail) (cost_number t.tail) (range_of t.tail) (external_of t.tail)) (ap (number_of nts) s.left)
-    ∙ ap (λ x. made l x (parts_of_tail t.tail) (cost_number t.tail) (range_of t.tail) (external_of t.tail)) (same_pattern ops nts t.pattern u.pattern s.pattern)
-    ∙ ap (λ x. made l p x (cost_number t.tail) (range_of t.tail) (external_of t.tail)) (sym k.parts)
-    ∙ ap (λ x. made l p (parts_of_tail u.tail) x (range_of t.tail) (external_of t.tail)) (sym k.number)
-    ∙ ap (λ x. made l p (parts_of_tail u.tail) (cost_number u.tail) x (external_of t.tail)) (sym k.range)
-    ∙ ap (λ x. made l p (parts_of_tail u.tail) (cost_number u.tail) (range_of u.tail) x) (sym k.external)
+    ap (λ x. made x (pattern_of ops nts t.pattern) (parts_of_tail t.tail) (cost_of t.tail) (range_of t.tail) (external_of t.tail)) (ap (number_of nts) s.left)
+    ∙ ap (λ x. made l x (parts_of_tail t.tail) (cost_of t.tail) (range_of t.tail) (external_of t.tail)) (same_pattern ops nts t.pattern u.pattern s.pattern)
+    ∙ ap (λ x. made l p x (cost_of t.tail) (range_of t.tail) (external_of t.tail)) (sym k.parts)
+    ∙ ap (λ x. made l p (parts_of_tail u.tail) x (range_of t.tail) (external_of t.tail)) (sym k.cost)
+    ∙ ap (λ x. made l p (parts_of_tail u.tail) (cost_of u.tail) x (external_of t.tail)) (sym k.range)
+    ∙ ap (λ x. made l p (parts_of_tail u.tail) (cost_of u.tail) (range_of u.tail) x) (sym k.external)
 
 pub rules_say : (ops nts : List (List ℕ)) (source again ps : List ℕ) (rs : List RuleForm) (ts : List RuleText) → RulesGood ops nts rs ts
     → map without_place (map (rule_of source ops nts) ts) ≡ map without_place (map (rule_of again ops nts) (rule_texts ps (forms_again rs ts)))

@@ -5,7 +5,7 @@ use Rattle.std.specs.List.{flat_map}
 use Rattle.std.proofs.lemmas.List.{map-append}
 use Rattle.sel_grammar.specs.Limits as limits
 use Rattle.sel_grammar.specs.Limits.{most_rules, most_nonterminals, most_kids, most_operators}
-use Rattle.sel_grammar_text.specs.Items.{Word, CostText, TailText, OneLine, Burg, RuleText, Item, RuleItem}
+use Rattle.sel_grammar_text.specs.Items.{Word, AmountText, CostText, TailText, OneLine, Burg, RuleText, Item, RuleItem}
 use Rattle.sel_grammar_text.specs.Names.{is_among, operators, rules, leaves, nonterminal_words, with_words, nonterminals, uses, first_use}
 use Rattle.sel_grammar_text.specs.Checks.{place_if, duplicate_term, too_many_items, term_on_left, past_most, too_many_nonterminals, differs, has_wrong_kids, first_wrong_kids, arity, begins_reserved, template_form, is_past_kid, kid_number, result_in_fragment, is_nullary, range_at, range_place, large_in_tail, cost_large}
 use Rattle.sel_grammar_text.specs.Faults.{fault_at, or_fault}
@@ -218,7 +218,7 @@ from_checked before item c =
 -- two tails of which the second passes each check of templates and costs that the first passes
 pub data TailAgain : TailText → TailText → Type 0 where
   line_again : (w v : Word) (c d : CostText) → IsReadAgain w.bytes v.bytes → (range_at (OneLine w c) ≡ None → range_at (OneLine v d) ≡ None) → large_in_tail (OneLine v d) ≡ None → TailAgain (OneLine w c) (OneLine v d)
-  burg_again : (w v : Word) (c d : Option Word) → large_in_tail (Burg v d) ≡ None → TailAgain (Burg w c) (Burg v d)
+  burg_again : (w v : Word) (c d : Option AmountText) → large_in_tail (Burg v d) ≡ None → TailAgain (Burg w c) (Burg v d)
 
 fragment : (t : Bool) (o p : Option ℕ) → (o ≡ None → p ≡ None) → cond t None o ≡ None → cond t None p ≡ None
 fragment true o p f h = refl

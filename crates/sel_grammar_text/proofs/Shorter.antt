@@ -1,13 +1,13 @@
 -- Tokens take bytes, and what that leaves.
-use Rattle.std.proofs.Common.{◌≡◌, ℕ, suc, zero, ◌+◌, ◌-◌, ◌≤◌, ◌<◌, List, [], ◌∷◌, Option, Some, None, Bool, true, false, length, take, drop, refl, ap, sym, ◌∙◌, subst, arith, length-take, length-drop, cond, ◌||◌, ◌&&◌, eqb}
+use Rattle.std.proofs.Common.{◌≡◌, ℕ, ◌+◌, ◌-◌, ◌≤◌, ◌<◌, List, [], ◌∷◌, Option, Some, None, Bool, true, false, length, take, drop, refl, ap, sym, ◌∙◌, subst, arith, length-take, length-drop, cond, ◌||◌, ◌&&◌, eqb}
 use Rattle.std.specs.Prelude.{codes}
 use Rattle.std.specs.List.{prefix_len, starts_with}
 use Rattle.std.specs.Char.{is_ascii_digit}
 use Rattle.sel_grammar.specs.Names.{is_letter, is_name_byte}
 use Rattle.sel_grammar_text.specs.Blanks.{skip, behind_pair}
-use Rattle.sel_grammar_text.specs.Tokens.{Token, Name, Integer, Quoted, Unclosed, Start, Term, Percents, Code, OpenCode, Colon, Equals, Open, Close, Comma, Semi, Bad, End, token_of, width, mark, quoted, percent, option_cases, inside_len, is_on_line}
+use Rattle.sel_grammar_text.specs.Tokens.{Token, Quoted, Unclosed, Start, Term, Percents, Code, OpenCode, Colon, Equals, Open, Close, Comma, Semi, Bad, End, token_of, width, mark, quoted, percent, option_cases, inside_len, is_on_line}
 use Rattle.sel_grammar_text.specs.Spots.{behind}
-use Rattle.sel_grammar_text.specs.FormFaults.{behind_further, is_comma, is_integer, token_in}
+use Rattle.sel_grammar_text.specs.FormFaults.{is_comma, is_integer, token_in}
 use Rattle.sel_grammar_text.proofs.Blanks.{skip_short}
 use Rattle.sel_grammar_text.proofs.CostLists.{IsShortening}
 

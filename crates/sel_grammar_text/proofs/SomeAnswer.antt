@@ -1,25 +1,22 @@
 -- A text spells a grammar or has a fault.
-use Rattle.std.proofs.Common.{◌≡◌, ℕ, suc, zero, ◌+◌, ◌≤◌, ◌<◌, ◌⊎◌, inl, inr, List, [], ◌∷◌, ◌++◌, Option, Some, None, Bool, true, false, refl, ap, sym, ◌∙◌, subst, arith, length, cond}
-use Rattle.sel_grammar.specs.Limits as limits
+use Rattle.std.proofs.Common.{◌≡◌, ℕ, suc, zero, ◌<◌, ◌⊎◌, inl, inr, List, [], ◌∷◌, ◌++◌, Option, Some, None, Bool, true, false, refl, ap, sym, ◌∙◌, arith, length, cond}
 use Rattle.sel_grammar.specs.declared.grammar.Grammar.{Grammar}
 use Rattle.sel_grammar.specs.declared.refusal.GrammarFault.{GrammarFault}
-use Rattle.sel_grammar_text.specs.Blanks.{skip}
-use Rattle.sel_grammar_text.specs.Tokens.{Token, Quoted, Code, End, token_of}
+use Rattle.sel_grammar_text.specs.Tokens.{Token, Quoted, Code}
 use Rattle.sel_grammar_text.specs.Form.{GoesOn}
 use Rattle.sel_grammar_text.specs.Spots.{Spot, after, behind, tokens, first_spots, here}
 use Rattle.sel_grammar_text.specs.Cutting.{cutting, ends, item_of}
-use Rattle.sel_grammar_text.specs.Faults.{fault}
 use Rattle.sel_grammar_text.specs.FormFaults.{HasFormFault, pattern_names, ends_integer}
 use Rattle.sel_grammar_text.specs.FormDecision.{decided_fault, accepted_fault, judged, is_unclosed, stray_place, open_string_fault}
 use Rattle.sel_grammar_text.specs.ItemFaults.{check_all}
 use Rattle.sel_grammar_text.specs.GrammarText.{HasFault, HasFirstFault, SpellsGrammar, IsGrammarFault, end_fault, items_of}
 use Rattle.sel_grammar_text.specs.Meaning.{grammar_of}
 use Rattle.sel_grammar_text.specs.Places.{line_of, column_of}
-use Rattle.sel_grammar_text.specs.Machine.{step, run, begin}
+use Rattle.sel_grammar_text.specs.Machine.{step, begin}
 use Rattle.sel_grammar_text.specs.Laws.{SomeGrammarOrFault}
 use Rattle.sel_grammar_text.specs.declared.fault.Fault.{Fault}
 use Rattle.sel_grammar_text.specs.declared.form.State.{State}
-use Rattle.sel_grammar_text.specs.declared.form.State.TheVariants.{Declaring, Starting, Entering, Equating, Ruling, LeftName, Wanted, Named, Closed, External, Numbered, Pricing, Priced, Finishing, Ended}
+use Rattle.sel_grammar_text.specs.declared.form.State.TheVariants.{Declaring, Starting, Entering, Equating, Ruling, LeftName, Wanted, Named, Closed, External, Numbered, Pricing, Priced, Pairing, Paired, Finishing, Ended}
 use Rattle.sel_grammar_text.proofs.FormComplete.{goes_on, stops}
 use Rattle.sel_grammar_text.proofs.Steps.{Reached, reached_start, reached_next, reached_fault, reached_end, reached_end_fault, after-snoc}
 use Rattle.sel_grammar_text.proofs.Decided.{decided, undecided}
@@ -59,6 +56,8 @@ is_ended External = inr (λ e. cc)
 is_ended Numbered = inr (λ e. cc)
 is_ended Pricing = inr (λ e. cc)
 is_ended Priced = inr (λ e. cc)
+is_ended Pairing = inr (λ e. cc)
+is_ended Paired = inr (λ e. cc)
 is_ended Finishing = inr (λ e. cc)
 
 module _ (bytes : List ℕ) (n : ℕ) (s : State) (r : Reached bytes n s) where

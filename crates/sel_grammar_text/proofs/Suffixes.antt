@@ -1,6 +1,5 @@
 -- What is left of a text is its end.
-use Rattle.std.proofs.Common.{◌≡◌, ℕ, suc, zero, ◌+◌, ◌-◌, ◌≤◌, ◌<◌, List, [], ◌∷◌, ◌++◌, Option, Some, None, Bool, true, false, length, take, drop, refl, ap, sym, ◌∙◌, subst, arith, length-drop, cond, ◌&&◌, eqb}
-use Rattle.std.proofs.lemmas.List.{append-nil}
+use Rattle.std.proofs.Common.{◌≡◌, ℕ, suc, zero, ◌+◌, ◌-◌, ◌≤◌, List, [], ◌∷◌, ◌++◌, Option, Some, None, Bool, true, false, length, take, drop, refl, ap, sym, ◌∙◌, arith, length-drop, cond, ◌&&◌, eqb}
 use Rattle.std.proofs.Math.Seq.{take-add}
 use Rattle.sel_grammar_text.specs.Blanks.{is_blank, behind_pair, behind_comment, behind_blank, skip_at_most, skip}
 use Rattle.sel_grammar_text.specs.Tokens.{token_of, width}

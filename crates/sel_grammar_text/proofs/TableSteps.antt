@@ -1,23 +1,20 @@
 -- What the tables stand for behind one more item.
-use Rattle.std.proofs.Common.{◌≡◌, ℕ, suc, ◌+◌, ◌<◌, ◌≤◌, List, [], ◌∷◌, ◌++◌, Option, Some, None, Bool, true, false, length, refl, ap, sym, ◌∙◌, arith, cond, map, subst}
+use Rattle.std.proofs.Common.{◌≡◌, ℕ, ◌+◌, ◌≤◌, List, [], ◌∷◌, ◌++◌, Option, Some, None, Bool, true, false, length, refl, ap, sym, ◌∙◌, arith, map, subst}
 use Rattle.std.specs.Prelude.{option_map, nat_le, Result, Ok, Err, OnOk}
 use Rattle.std.specs.Str.Parse.{digits_value}
 use Rattle.std.proofs.Common.{length-append}
 use Rattle.sel_grammar_text.specs.Checks.{place_if}
 use Rattle.std.specs.List.{flat_map}
 use Rattle.std.proofs.lemmas.List.{append-nil, map-append, length-map}
-use Rattle.sel_grammar.specs.declared.grammar.Operator.{Operator}
-use Rattle.sel_grammar.specs.declared.grammar.Rule.{Rule}
 use Rattle.sel_grammar.specs.Limits.{most_operators, most_nonterminals}
 use Rattle.sel_grammar_text.specs.declared.tables.Tables.{Tables}
-use Rattle.sel_grammar_text.specs.declared.words.TextWord.{TextWord}
 use Rattle.sel_grammar_text.specs.Items.{Word, RuleText, Item, StartItem, EntryItem, CodeItem, PercentsItem, RuleItem}
 use Rattle.sel_grammar_text.specs.Names.{operators, rules, leaves, nonterminal_words, with_words, nonterminals, uses}
 use Rattle.sel_grammar_text.specs.Meaning.{operators_of, rule_of}
 use Rattle.sel_grammar_text.specs.GrammarText.{nonterminal_uses}
 use Rattle.sel_grammar_text.specs.Places.{line_of, column_of}
 use Rattle.sel_grammar_text.specs.Words.{view_word}
-use Rattle.sel_grammar_text.specs.Tables.{start_word, or_word, operator_names, with_uses, noted, rule_at, Means, IsReady, IsReadyFor, IsReadyRule, IsPlaced, StandsRight}
+use Rattle.sel_grammar_text.specs.Tables.{start_word, or_word, operator_names, with_uses, noted, rule_at, Means, IsPlaced, StandsRight}
 use Rattle.sel_grammar_text.specs.ItemFaults.{check}
 use Rattle.sel_grammar_text.proofs.ItemLists.{operators-append, rules-append, operators_of-append, nonterminal_uses-append, nonterminal_uses_alone, start_word-append, with_words-append, with_uses-append, flat_map-snoc, operator_names_of, noted_uses, length-noted}
 use Rattle.sel_grammar_text.proofs.NumberStays.{rule_stays, rule_settled}

@@ -1,12 +1,9 @@
 -- The numbers that items give themselves, by the state behind their tokens.
-use Rattle.std.proofs.Common.{◌≡◌, ℕ, suc, zero, ◌+◌, ◌≤◌, List, [], ◌∷◌, ◌++◌, Option, Some, None, Bool, true, false, refl, ap, sym, ◌∙◌, subst, arith, append_assoc, append-nil, cond}
-use Rattle.std.specs.Prelude.{nat_le}
+use Rattle.std.proofs.Common.{◌≡◌, ℕ, suc, zero, List, [], ◌∷◌, ◌++◌, Option, Some, None, Bool, true, false, refl, ap, sym, ◌∙◌, subst, arith, append_assoc, cond}
 use Rattle.std.specs.List.{AllByRecursion}
-use Rattle.std.specs.Str.Parse.{digits_value}
-use Rattle.sel_grammar.specs.Limits.{greatest_external}
-use Rattle.sel_grammar_text.specs.Tokens.{Token, Name, Integer, Quoted, Unclosed, Start, Term, Percents, Code, OpenCode, Colon, Equals, Open, Close, Comma, Semi, Bad, End}
+use Rattle.sel_grammar_text.specs.Tokens.{Token, Name, Integer, Quoted, Start, Term, Percents, Code, Colon, Equals, Open, Close, Comma, Semi, End}
 use Rattle.sel_grammar_text.specs.Form.{is_small}
-use Rattle.sel_grammar_text.specs.Items.{Word, word, TailText, OneLine, Burg, RuleText, Item, StartItem, EntryItem, CodeItem, PercentsItem, RuleItem}
+use Rattle.sel_grammar_text.specs.Items.{Word, word, TailText, RuleText, Item, StartItem, EntryItem, CodeItem, PercentsItem, RuleItem}
 use Rattle.sel_grammar_text.specs.ItemNumbers.{HasExternal, HasExternalInTail, IsExternal}
 use Rattle.sel_grammar_text.specs.Names.{rules}
 use Rattle.sel_grammar_text.specs.Tables.{StandsRight}
@@ -14,7 +11,7 @@ use Rattle.sel_grammar_text.specs.Spots.{Spot}
 use Rattle.sel_grammar_text.specs.Cutting.{is_start, is_equals, item_of, named_item, tail_in, numbers_in, burg_of, pattern_in}
 use Rattle.sel_grammar_text.specs.Machine.{after_pattern, declare, step, is_border, is_declaring}
 use Rattle.sel_grammar_text.specs.declared.form.State.{State}
-use Rattle.sel_grammar_text.specs.declared.form.State.TheVariants.{Declaring, Starting, Entering, Equating, Ruling, LeftName, Wanted, Named, Closed, External, Numbered, Pricing, Priced, Finishing, Ended}
+use Rattle.sel_grammar_text.specs.declared.form.State.TheVariants.{Declaring, Starting, Entering, Equating, Ruling, LeftName, Wanted, Named, Closed, External, Numbered, Pricing, Priced, Pairing, Paired, Finishing, Ended}
 
 -- A rule has begun, and its tail is f of what still comes.
 pub record TailIs (left : List Spot) (f : List Spot → TailText) : Type 0 where
@@ -40,7 +37,9 @@ Tailed External left = TailIs left (λ ys. burg_of (numbers_in ys))
 Tailed Numbered left = (w : Word) × IsExternal w × TailIs left (λ ys. burg_of (w ∷ numbers_in ys))
 Tailed Pricing left = (w : Word) × IsExternal w × TailIs left (λ ys. burg_of (w ∷ numbers_in ys))
 Tailed Priced left = (w : Word) × (c : Word) × IsExternal w × TailIs left (λ ys. burg_of (w ∷ c ∷ numbers_in ys))
-Tailed Finishing left = (w : Word) × (c : Word) × IsExternal w × TailIs left (λ ys. burg_of (w ∷ c ∷ numbers_in ys))
+Tailed Pairing left = (w : Word) × (c : Word) × IsExternal w × TailIs left (λ ys. burg_of (w ∷ c ∷ numbers_in ys))
+Tailed Paired left = (w : Word) × (c : Word) × (d : Word) × IsExternal w × TailIs left (λ ys. burg_of (w ∷ c ∷ d ∷ numbers_in ys))
+Tailed Finishing left = (w : Word) × (numbers : List Word) × IsExternal w × TailIs left (λ ys. burg_of (w ∷ (numbers ++ numbers_in ys)))
 Tailed Ended left = Unit {0}
 
 abbrev at_spot : Token → ℕ → Spot
@@ -201,8 +200,14 @@ step_next Numbered Semi at left h = fine left Semi at Ruling refl (ended_fine le
 step_next Pricing (Integer c) at left h =
     goes left (Integer c) at Priced refl (h.0, word at c, h.1, more_tail left (at_spot (Integer c) at) (λ ys. burg_of (h.0 ∷ numbers_in ys)) (λ ys. burg_of (h.0 ∷ word at c ∷ numbers_in ys)) (λ ys. refl) h.2)
 step_next Priced Close at left h =
-    goes left Close at Finishing refl (h.0, h.1, h.2, more_tail left (at_spot Close at) (λ ys. burg_of (h.0 ∷ h.1 ∷ numbers_in ys)) (λ ys. burg_of (h.0 ∷ h.1 ∷ numbers_in ys)) (λ ys. refl) h.3)
-step_next Finishing Semi at left h = fine left Semi at Ruling refl (ended_fine left (at_spot Semi at) (λ ys. burg_of (h.0 ∷ h.1 ∷ numbers_in ys)) h.3 h.2)
+    goes left Close at Finishing refl (h.0, h.1 ∷ [], h.2, more_tail left (at_spot Close at) (λ ys. burg_of (h.0 ∷ h.1 ∷ numbers_in ys)) (λ ys. burg_of (h.0 ∷ ((h.1 ∷ []) ++ numbers_in ys))) (λ ys. refl) h.3)
+step_next Priced Comma at left h =
+    goes left Comma at Pairing refl (h.0, h.1, h.2, more_tail left (at_spot Comma at) (λ ys. burg_of (h.0 ∷ h.1 ∷ numbers_in ys)) (λ ys. burg_of (h.0 ∷ h.1 ∷ numbers_in ys)) (λ ys. refl) h.3)
+step_next Pairing (Integer d) at left h =
+    goes left (Integer d) at Paired refl (h.0, h.1, word at d, h.2, more_tail left (at_spot (Integer d) at) (λ ys. burg_of (h.0 ∷ h.1 ∷ numbers_in ys)) (λ ys. burg_of (h.0 ∷ h.1 ∷ word at d ∷ numbers_in ys)) (λ ys. refl) h.3)
+step_next Paired Close at left h =
+    goes left Close at Finishing refl (h.0, h.1 ∷ h.2 ∷ [], h.3, more_tail left (at_spot Close at) (λ ys. burg_of (h.0 ∷ h.1 ∷ h.2 ∷ numbers_in ys)) (λ ys. burg_of (h.0 ∷ ((h.1 ∷ h.2 ∷ []) ++ numbers_in ys))) (λ ys. refl) h.4)
+step_next Finishing Semi at left h = fine left Semi at Ruling refl (ended_fine left (at_spot Semi at) (λ ys. burg_of (h.0 ∷ (h.1 ++ numbers_in ys))) h.3 h.2)
 step_next _ _ at left h = tt
 
 pub tailed_next : (s u : State) (t : Token) (at : ℕ) (left : List Spot) → Tailed s left → step s t ≡ Some u → GoesOrIsFine left t at u
@@ -256,6 +261,9 @@ step_back Numbered Open = λ e. let z : ⊥ = cc in absurd z
 step_back Numbered Semi = λ e. let z : ⊥ = cc in absurd z
 step_back Pricing (Integer c) = λ e. let z : ⊥ = cc in absurd z
 step_back Priced Close = λ e. let z : ⊥ = cc in absurd z
+step_back Priced Comma = λ e. let z : ⊥ = cc in absurd z
+step_back Pairing (Integer c) = λ e. let z : ⊥ = cc in absurd z
+step_back Paired Close = λ e. let z : ⊥ = cc in absurd z
 step_back Finishing Semi = λ e. let z : ⊥ = cc in absurd z
 step_back _ _ = tt
 

@@ -1,14 +1,13 @@
 -- A walk over the tokens of one item: what is known behind each.
-use Rattle.std.proofs.Common.{◌≡◌, ℕ, suc, zero, ◌+◌, ◌-◌, ◌≤◌, ◌<◌, ◌⊎◌, inl, inr, List, [], ◌∷◌, ◌++◌, Option, Some, None, Bool, true, false, refl, ap, sym, ◌∙◌, subst, arith, length, length-append, length-drop, drop, cond, map}
+use Rattle.std.proofs.Common.{◌≡◌, ℕ, suc, zero, ◌+◌, ◌-◌, inl, inr, List, [], ◌∷◌, ◌++◌, Option, Some, None, Bool, true, false, refl, ap, sym, ◌∙◌, subst, arith, length, length-drop, cond}
 use Rattle.sel_grammar_text.specs.Blanks.{skip}
-use Rattle.sel_grammar_text.specs.Tokens.{Token, Name, Integer, Quoted, Unclosed, Start, Term, Percents, Code, OpenCode, Colon, Equals, Open, Close, Comma, Semi, Bad, End, token_of}
-use Rattle.sel_grammar_text.specs.Form.{IsText, GoesOn}
+use Rattle.sel_grammar_text.specs.Tokens.{Token, Name, Open, End, token_of}
+use Rattle.sel_grammar_text.specs.Form.{GoesOn}
 use Rattle.sel_grammar_text.specs.Items.{Word}
 use Rattle.sel_grammar_text.specs.Spots.{Spot, spot, first, after, behind, tokens, first_spots, here}
 use Rattle.sel_grammar_text.specs.Cutting.{Cutting, cutting, with_spot, ends, item_of}
 use Rattle.sel_grammar_text.specs.FormFaults.{HasFormFault, names_in, pattern_names, ends_integer, is_integer}
-use Rattle.sel_grammar_text.specs.FormDecision.{decided_fault, accepted_fault, judged, is_unclosed}
-use Rattle.sel_grammar_text.specs.ItemFaults.{check_all}
+use Rattle.sel_grammar_text.specs.FormDecision.{decided_fault}
 use Rattle.sel_grammar_text.specs.GrammarText.{HasFault, IsSoundUpTo, HasFirstFault, at_token}
 use Rattle.sel_grammar_text.specs.Machine.{step, run, go, begin, is_border, is_declaring, wants_cost, is_name}
 use Rattle.std.specs.List.{AllByRecursion}
@@ -19,9 +18,9 @@ use Rattle.sel_grammar_text.specs.Extents.{StandsAtItem, HasExtent}
 use Rattle.sel_grammar_text.specs.declared.fault.Fault.{Fault}
 use Rattle.sel_grammar_text.specs.declared.scan.Extent.{Extent}
 use Rattle.sel_grammar_text.specs.declared.form.State.{State}
-use Rattle.sel_grammar_text.specs.declared.form.State.TheVariants.{Declaring, Starting, Entering, Equating, Ruling, LeftName, Wanted, Named, Closed, External, Numbered, Pricing, Priced, Finishing, Ended}
+use Rattle.sel_grammar_text.specs.declared.form.State.TheVariants.{Named, Closed, Numbered, Ended}
 use Rattle.sel_grammar_text.proofs.FormSound.{run-append}
-use Rattle.sel_grammar_text.proofs.FormComplete.{complete, goes_on, stops}
+use Rattle.sel_grammar_text.proofs.FormComplete.{goes_on, stops}
 use Rattle.sel_grammar_text.proofs.Steps.{Reached, reached_next, first-snoc, after-snoc, tokens-snoc, cutting-snoc}
 use Rattle.sel_grammar_text.proofs.Decided.{decided, undecided}
 use Rattle.sel_grammar_text.proofs.Bordering.{Begun, begun_next, border_begun}

@@ -3,7 +3,6 @@ use Rattle.std.proofs.Common.{◌≡◌, ℕ, suc, zero, ◌<◌, ◌⊎◌, inl
 use Rattle.sel_grammar_text.specs.declared.fault.Fault.{Fault}
 use Rattle.sel_grammar_text.specs.declared.form.State.{State}
 use Rattle.sel_grammar_text.specs.declared.form.State.TheVariants.{Ended}
-use Rattle.sel_grammar_text.specs.Items.{Item}
 use Rattle.sel_grammar_text.specs.Names.{rules}
 use Rattle.sel_grammar_text.specs.Spots.{Spot, tokens, first_spots, here}
 use Rattle.sel_grammar_text.specs.Cutting.{Cutting, cutting, ends, item_of}

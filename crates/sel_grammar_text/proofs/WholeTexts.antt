@@ -6,10 +6,10 @@ use Rattle.std.proofs.Math.Nat.{eq-or-lt_of_le}
 use Rattle.sel_grammar.specs.Limits as limits
 use Rattle.sel_grammar.specs.Limits.{most_names}
 use Rattle.sel_grammar_text.specs.Blanks.{skip}
-use Rattle.sel_grammar_text.specs.Tokens.{Token, Name, Integer, Quoted, Unclosed, Code, Open, Close, token_of}
+use Rattle.sel_grammar_text.specs.Tokens.{Token, Name, Integer, Quoted, Unclosed, Code, Open, Close, Comma, token_of}
 use Rattle.sel_grammar_text.specs.Form.{IsText, GoesOn}
 use Rattle.sel_grammar_text.specs.Items.{Item}
-use Rattle.sel_grammar_text.specs.CostText.{wrong_cost}
+use Rattle.sel_grammar_text.specs.CostText.{and_then, wrong_cost}
 use Rattle.sel_grammar_text.specs.Spots.{Spot, spot, first, after, behind, tokens, first_spots, here}
 use Rattle.sel_grammar_text.specs.Cutting.{ends, item_of, Cutting, cut_on, cutting}
 use Rattle.sel_grammar_text.specs.Faults.{fault, fault_if, fault_at, or_fault}
@@ -20,7 +20,7 @@ use Rattle.sel_grammar_text.specs.GrammarText.{HasFault, IsWhole}
 use Rattle.sel_grammar_text.specs.Machine.{step, run, go, begin}
 use Rattle.sel_grammar_text.specs.declared.fault.Fault.{Fault}
 use Rattle.sel_grammar_text.specs.declared.form.State.{State}
-use Rattle.sel_grammar_text.specs.declared.form.State.TheVariants.{Declaring, Wanted, Named, Closed, Numbered, Pricing, Priced, Ended}
+use Rattle.sel_grammar_text.specs.declared.form.State.TheVariants.{Declaring, Wanted, Named, Closed, Numbered, Pricing, Priced, Pairing, Paired, Ended}
 use Rattle.sel_grammar_text.proofs.FormSound.{run-append}
 use Rattle.sel_grammar_text.proofs.FormComplete.{complete, goes_on, stops}
 use Rattle.sel_grammar_text.proofs.Decided.{undecided, no_unclosed}
@@ -218,16 +218,26 @@ abbrev listed : Option (List ℕ) → Bool
 listed o = elim o as (λ _. Bool) [ None ↦ false | Some rest ↦ closes rest ]
 
 no_list : (t : Token) (more : List ℕ) → token_of (skip more) ≡ t → ((d : List ℕ) → t ≡ Integer d → ⊥) → is_cost_list more ≡ false
-no_list t more e h = ap (λ u. is_integer u && listed (behind_further (behind more))) e ∙ not_integer t h
+no_list t more e h = ap (λ u. is_integer u && listed (and_then (behind_further (behind more)) behind_further)) e ∙ not_integer t h
   where
-    not_integer : (t : Token) → ((d : List ℕ) → t ≡ Integer d → ⊥) → (is_integer t && listed (behind_further (behind more))) ≡ false
+    not_integer : (t : Token) → ((d : List ℕ) → t ≡ Integer d → ⊥) → (is_integer t && listed (and_then (behind_further (behind more)) behind_further)) ≡ false
     not_integer (Integer d) h = absurd (h d refl)
     not_integer t h = refl
 
 closed_list : (d : List ℕ) (more : List ℕ) → token_of (skip more) ≡ Integer d → token_of (skip (behind more)) ≡ Close → is_cost_list more ≡ false
 closed_list d more e h =
-    ap (λ u. is_integer u && listed (behind_further (behind more))) e
-    ∙ ap (λ u. listed (cond (is_comma u && is_integer (token_in (behind (behind more)))) (Some (behind (behind (behind more)))) None)) h
+    ap (λ u. is_integer u && listed (and_then (behind_further (behind more)) behind_further)) e
+    ∙ ap (λ u. listed (and_then (cond (is_comma u && is_integer (token_in (behind (behind more)))) (Some (behind (behind (behind more)))) None) behind_further)) h
+
+-- a pair is no list
+closed_pair : (more : List ℕ) → token_of (skip (behind (behind (behind more)))) ≡ Close → is_cost_list more ≡ false
+closed_pair more h =
+    by_tests (behind (behind (behind more))) h (is_integer (token_in more)) (is_comma (token_in (behind more)) && is_integer (token_in (behind (behind more))))
+  where
+    by_tests : (rest : List ℕ) → token_of (skip rest) ≡ Close → (i b : Bool) → (i && listed (and_then (cond b (Some rest) None) behind_further)) ≡ false
+    by_tests rest h true true = ap (λ u. listed (cond (is_comma u && is_integer (token_in (behind rest))) (Some (behind (behind rest))) None)) h
+    by_tests rest h true false = refl
+    by_tests rest h false b = refl
 
 -- what an opening parenthesis leads to
 opens : (s u : State) → step s Open ≡ Some u → ((d : ℕ) × (u ≡ Wanted d)) ⊎ (u ≡ Pricing)
@@ -245,9 +255,18 @@ pricing : (t : Token) (u : State) → step Pricing t ≡ Some u → (d : List �
 pricing (Integer d) u h = (d, refl, cc)
 pricing t u h = cc
 
-priced : (t : Token) (u : State) → step Priced t ≡ Some u → t ≡ Close
-priced Close u h = refl
+priced : (t : Token) (u : State) → step Priced t ≡ Some u → (t ≡ Close) ⊎ ((t ≡ Comma) × (u ≡ Pairing))
+priced Close u h = inl refl
+priced Comma u h = inr (refl, cc)
 priced t u h = cc
+
+pairing : (t : Token) (u : State) → step Pairing t ≡ Some u → u ≡ Paired
+pairing (Integer d) u h = cc
+pairing t u h = cc
+
+paired : (t : Token) (u : State) → step Paired t ≡ Some u → t ≡ Close
+paired Close u h = refl
+paired t u h = cc
 
 module _ (bytes : List ℕ) (n : ℕ) (x : IsText (tokens (first_spots (suc n) bytes))) where
   not_last : (k : ℕ) (p : Passed bytes k) (u : State) → k ≤ n → p.behind_it ≡ u → (u ≡ Ended → ⊥) → suc k ≤ n
@@ -256,23 +275,39 @@ module _ (bytes : List ℕ) (n : ℕ) (x : IsText (tokens (first_spots (suc n) b
     | inr l ↦ l
   ]
 
+  -- the state behind the next token, which isn't the last one
+  next : (k : ℕ) (p : Passed bytes k) (s : State) → k ≤ n → p.behind_it ≡ s → (s ≡ Ended → ⊥) → (suc k ≤ n) × ((q : Passed bytes (suc k)) × (step s (here (suc k) bytes).token ≡ Some q.behind_it))
+  next k p s h e o =
+      let l = not_last k p s h e o in
+      let q = passed bytes (suc k) n x l in (l, (q, ap (λ z. step z (here (suc k) bytes).token) (sym e ∙ same_state bytes k p q) ∙ q.step_so))
+
   no_cost_list : (k : ℕ) → k ≤ n → (here k bytes).token ≡ Open → is_cost_list (after (suc k) bytes) ≡ false
   no_cost_list k h e =
       let p = passed bytes k n x h in
       elim (opens p.before p.behind_it (sym (ap (step p.before) e) ∙ p.step_so)) [
-        | inl w ↦
-            let l = not_last k p (Wanted w.0) h w.1 (λ z. cc) in
-            let q = passed bytes (suc k) n x l in
-            no_list (here (suc k) bytes).token (after (suc k) bytes) refl (wanted w.0 (here (suc k) bytes).token q.behind_it (ap (λ s. step s (here (suc k) bytes).token) (sym w.1 ∙ same_state bytes k p q) ∙ q.step_so))
-        | inr w ↦
-            let l = not_last k p Pricing h w (λ z. cc) in
-            let q = passed bytes (suc k) n x l in
-            let i = pricing (here (suc k) bytes).token q.behind_it (ap (λ s. step s (here (suc k) bytes).token) (sym w ∙ same_state bytes k p q) ∙ q.step_so) in
-            let m = not_last (suc k) q Priced l i.2 (λ z. cc) in
-            let r = passed bytes (suc (suc k)) n x m in
-            let c = priced (here (suc (suc k)) bytes).token r.behind_it (ap (λ s. step s (here (suc (suc k)) bytes).token) (sym i.2 ∙ same_state bytes (suc k) q r) ∙ r.step_so) in
-            closed_list i.0 (after (suc k) bytes) i.1 (ap (λ y. token_of (skip y)) (sym (after-snoc (suc k) bytes)) ∙ c)
+        | inl w ↦ let a = next k p (Wanted w.0) h w.1 (λ z. cc) in no_list (here (suc k) bytes).token (after (suc k) bytes) refl (wanted w.0 (here (suc k) bytes).token a.1.0.behind_it a.1.1)
+        | inr w ↦ no_list_behind k p h w
       ]
+    where
+      -- the second number is closed
+      no_third : (k : ℕ) (r : Passed bytes (suc (suc k))) → suc (suc k) ≤ n → r.behind_it ≡ Pairing → is_cost_list (after (suc k) bytes) ≡ false
+      no_third k r m e =
+          let b = next (suc (suc k)) r Pairing m e (λ z. cc) in
+          let c = next (suc (suc (suc k))) b.1.0 Paired b.0 (pairing (here (suc (suc (suc k))) bytes).token b.1.0.behind_it b.1.1) (λ z. cc) in
+          let d = paired (here (suc (suc (suc (suc k)))) bytes).token c.1.0.behind_it c.1.1 in
+          let far : behind (behind (behind (after (suc k) bytes))) ≡ after (suc (suc (suc (suc k)))) bytes =
+          ap (λ y. behind (behind y)) (sym (after-snoc (suc k) bytes)) ∙ ap behind (sym (after-snoc (suc (suc k)) bytes)) ∙ sym (after-snoc (suc (suc (suc k))) bytes) in
+          closed_pair (after (suc k) bytes) (ap (λ y. token_of (skip y)) far ∙ d)
+
+      no_list_behind : (k : ℕ) (p : Passed bytes k) → k ≤ n → p.behind_it ≡ Pricing → is_cost_list (after (suc k) bytes) ≡ false
+      no_list_behind k p h w =
+          let a = next k p Pricing h w (λ z. cc) in
+          let i = pricing (here (suc k) bytes).token a.1.0.behind_it a.1.1 in
+          let b = next (suc k) a.1.0 Priced a.0 i.2 (λ z. cc) in
+          elim (priced (here (suc (suc k)) bytes).token b.1.0.behind_it b.1.1) [
+            | inl c ↦ closed_list i.0 (after (suc k) bytes) i.1 (ap (λ y. token_of (skip y)) (sym (after-snoc (suc k) bytes)) ∙ c)
+            | inr c ↦ no_third k b.1.0 b.0 c.1
+          ]
 
   not_unclosed : (s u : State) (t : Token) (b : Bool) → step s t ≡ Some u → is_unclosed t ≡ b → b ≡ false
   not_unclosed s u Unclosed b h e = let w : None ≡ Some u = sym (no_unclosed s) ∙ h in let z : ⊥ = cc in absurd z

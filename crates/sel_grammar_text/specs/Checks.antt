@@ -3,7 +3,7 @@ use Rattle.std.specs.Prelude.{ℕ, ◌-◌, ◌^◌, ◌==◌, ◌&&◌, ◌||�
 use Rattle.std.specs.Char.{is_ascii_digit}
 use Rattle.std.specs.Str.Parse.{digits_value}
 use Rattle.sel_grammar.specs.Limits.{most_operators, most_nonterminals, most_rules, most_kids, greatest_cost}
-use Rattle.sel_grammar_text.specs.Items.{Word, CostText, NoCost, Amount, Ranged, TailText, OneLine, Burg, RuleText, Item, EntryItem, RuleItem}
+use Rattle.sel_grammar_text.specs.Items.{Word, AmountText, CostText, NoCost, Amount, Ranged, TailText, OneLine, Burg, RuleText, Item, EntryItem, RuleItem}
 use Rattle.sel_grammar_text.specs.Names.{is_among, operators, rules, leaves, nonterminal_words, nonterminals, uses, first_use}
 use Rattle.sel_grammar_text.specs.TemplateText.{pieces, bad_sign, first_sign, ends_line}
 
@@ -121,16 +121,24 @@ abbrev pub large_option : Option Word → Option ℕ
 large_option None = None
 large_option (Some w) = large_cost w
 
+-- the first of the amount's numbers that is too large
+abbrev pub large_amount : AmountText → Option ℕ
+large_amount a = or_place (large_cost a.first) (large_option a.second)
+
+abbrev pub large_amount_if_any : Option AmountText → Option ℕ
+large_amount_if_any None = None
+large_amount_if_any (Some a) = large_amount a
+
 abbrev pub large_in_cost : CostText → Option ℕ
 large_in_cost NoCost = None
-large_in_cost (Amount w) = large_cost w
-large_in_cost (Ranged at lo hi addend) = or_place (large_bound lo) (or_place (large_bound hi) (large_option addend))
+large_in_cost (Amount a) = large_amount a
+large_in_cost (Ranged at lo hi addend) = or_place (large_bound lo) (or_place (large_bound hi) (large_amount_if_any addend))
 
 abbrev pub large_in_tail : TailText → Option ℕ
 large_in_tail (OneLine w cost) = large_in_cost cost
-large_in_tail (Burg external cost) = large_option cost
+large_in_tail (Burg external cost) = large_amount_if_any cost
 
--- a bound, an addend or a cost that is too large
+-- a bound, or a number of a cost or an addend, that is too large
 abbrev pub cost_large : List Item → Item → Option ℕ
 cost_large before (RuleItem r) = large_in_tail r.tail
 cost_large before _ = None

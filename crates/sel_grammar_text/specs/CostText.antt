@@ -3,7 +3,7 @@ use Rattle.std.specs.Prelude.{ℕ, zero, suc, ◌+◌, ◌-◌, ◌==◌, ◌&&�
 use Rattle.std.specs.Char.{is_ascii_digit}
 use Rattle.sel_grammar.specs.Names.{is_letter, is_name_byte}
 use Rattle.sel_grammar_text.specs.Blanks.{skip}
-use Rattle.sel_grammar_text.specs.Items.{Word, word, CostText, NoCost, Amount, Ranged}
+use Rattle.sel_grammar_text.specs.Items.{Word, word, AmountText, CostText, NoCost, Amount, Ranged}
 
 -- a token of a cost: a name, digits, digits behind their sign, or a single byte
 pub data CostToken : Type 0 where
@@ -78,10 +78,36 @@ abbrev pub read_number : List (ℕ × CostToken) → Option Word
 read_number ((at, Digits bytes) ∷ []) = Some (word at bytes)
 read_number _ = None
 
--- the addend at the end: none, or a number behind a plus sign
-abbrev pub read_addend : List (ℕ × CostToken) → Option (Option Word)
+-- digits, and the tokens behind them
+abbrev pub read_digits : List (ℕ × CostToken) → Option (Word × List (ℕ × CostToken))
+read_digits ((at, Digits bytes) ∷ ts) = Some (word at bytes, ts)
+read_digits _ = None
+
+-- what was read, where no token is left
+abbrev pub at_end : {X : Type 0} → X → List (ℕ × CostToken) → Option X
+at_end x [] = Some x
+at_end x (t ∷ ts) = None
+
+-- `N,M)` at the end, behind the opening parenthesis
+abbrev pub read_pair : List (ℕ × CostToken) → Option AmountText
+read_pair ts =
+    and_then (read_digits ts) (λ first.
+    and_then (behind_token (is_single 44) first.1) (λ ts.
+    and_then (read_digits ts) (λ second.
+    and_then (behind_token (is_single 41) second.1) (λ ts.
+    at_end (record { first = first.0; second = Some second.0 }) ts))))
+
+-- an amount at the end: a number, or `(N,M)`
+abbrev pub read_amount : List (ℕ × CostToken) → Option AmountText
+read_amount ts = elim (behind_token (is_single 40) ts) [
+  | None ↦ and_then (read_number ts) (λ w. Some (record { first = w; second = None }))
+  | Some more ↦ read_pair more
+]
+
+-- the addend at the end: none, or an amount behind a plus sign
+abbrev pub read_addend : List (ℕ × CostToken) → Option (Option AmountText)
 read_addend [] = Some None
-read_addend (t ∷ ts) = and_then (behind_token (is_single 43) (t ∷ ts)) (λ ts. and_then (read_number ts) (λ w. Some (Some w)))
+read_addend (t ∷ ts) = and_then (behind_token (is_single 43) (t ∷ ts)) (λ ts. and_then (read_amount ts) (λ a. Some (Some a)))
 
 -- `(a,LO,HI)` with or without an addend, behind the word `range`, which stands at a place
 abbrev pub read_range : ℕ → List (ℕ × CostToken) → Option CostText
@@ -96,10 +122,10 @@ read_range at ts =
     and_then (read_addend ts) (λ addend.
     Some (Ranged at lo.0 hi.0 addend)))))))))
 
--- the cost that the tokens are, where they are one: none, a number, or a range
+-- the cost that the tokens are, where they are one: none, an amount, or a range
 abbrev pub read_cost : List (ℕ × CostToken) → Option CostText
 read_cost [] = Some NoCost
-read_cost (t ∷ ts) = if is_word (codes "range") t.1 then read_range t.0 ts else and_then (read_number (t ∷ ts)) (λ w. Some (Amount w))
+read_cost (t ∷ ts) = if is_word (codes "range") t.1 then read_range t.0 ts else and_then (read_amount (t ∷ ts)) (λ a. Some (Amount a))
 
 -- the cost that the bytes spell, where they spell one
 unfoldable pub cost_in : ℕ → List ℕ → Option CostText

@@ -1,7 +1,7 @@
 -- How tokens are cut into items.
 use Rattle.std.specs.Prelude.{ℕ, ◌+◌, ◌-◌, ◌==◌, Bool, true, false, List, [], ◌∷◌, ◌++◌, length, Option, Some, None, if◌then◌else◌}
 use Rattle.sel_grammar_text.specs.Tokens.{Token, Name, Integer, Quoted, Start, Term, Percents, Code, Equals, Open, Close, Comma, Semi}
-use Rattle.sel_grammar_text.specs.Items.{Word, word, CostText, NoCost, TailText, OneLine, Burg, Item, StartItem, EntryItem, CodeItem, PercentsItem, RuleItem}
+use Rattle.sel_grammar_text.specs.Items.{Word, word, AmountText, CostText, NoCost, TailText, OneLine, Burg, Item, StartItem, EntryItem, CodeItem, PercentsItem, RuleItem}
 use Rattle.sel_grammar_text.specs.CostText.{cost_in}
 use Rattle.sel_grammar_text.specs.Spots.{Spot, first_spots}
 
@@ -63,10 +63,15 @@ abbrev pub numbers_in : List Spot → List Word
 numbers_in [] = []
 numbers_in (s ∷ spots) = elim s.token as (λ _. List Word) [ Integer d ↦ word s.at d ∷ numbers_in spots | _ ↦ numbers_in spots ]
 
+-- the cost that the numbers behind the external one are: none, one number, or two
+abbrev pub amount_of : List Word → Option AmountText
+amount_of [] = None
+amount_of (c ∷ []) = Some (record { first = c; second = None })
+amount_of (c ∷ d ∷ more) = Some (record { first = c; second = Some d })
+
 abbrev pub burg_of : List Word → TailText
 burg_of [] = Burg (word 0 []) None
-burg_of (e ∷ []) = Burg e None
-burg_of (e ∷ c ∷ more) = Burg e (Some c)
+burg_of (e ∷ numbers) = Burg e (amount_of numbers)
 
 abbrev pub or_no_cost : Option CostText → CostText
 or_no_cost None = NoCost

@@ -35,16 +35,22 @@ declaration_tokens (StartForm n) = Start ∷ Name n ∷ []
 declaration_tokens (TermForm entries) = Term ∷ entry_tokens entries
 declaration_tokens (CodeForm n) = Code n ∷ []
 
+-- the digits of a cost: of one number, or of two
+pub data AmountForm : Type 0 where
+  OneNumber : List ℕ → AmountForm
+  TwoNumbers : List ℕ → List ℕ → AmountForm
+
 -- A rule's tail: a template's bytes with what stands behind it on the line, or the digits of the external number and of
 -- the cost.
 pub data TailForm : Type 0 where
   OneLineForm : List ℕ → List ℕ → TailForm
-  BurgForm : List ℕ → Option (List ℕ) → TailForm
+  BurgForm : List ℕ → Option AmountForm → TailForm
 
 abbrev pub tail_tokens : TailForm → List Token
 tail_tokens (OneLineForm inside behind) = Quoted inside behind ∷ []
 tail_tokens (BurgForm external None) = Equals ∷ Integer external ∷ Semi ∷ []
-tail_tokens (BurgForm external (Some cost)) = Equals ∷ Integer external ∷ Open ∷ Integer cost ∷ Close ∷ Semi ∷ []
+tail_tokens (BurgForm external (Some (OneNumber c))) = Equals ∷ Integer external ∷ Open ∷ Integer c ∷ Close ∷ Semi ∷ []
+tail_tokens (BurgForm external (Some (TwoNumbers c d))) = Equals ∷ Integer external ∷ Open ∷ Integer c ∷ Comma ∷ Integer d ∷ Close ∷ Semi ∷ []
 
 pub record RuleForm : Type 0 where
   pub left : List ℕ

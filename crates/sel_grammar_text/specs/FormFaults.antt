@@ -1,12 +1,12 @@
 -- Faults of form, each at one token.
-use Rattle.std.specs.Prelude.{◌≡◌, ℕ, zero, suc, ◌+◌, ◌==◌, ◌&&◌, ◌||◌, Bool, true, false, nat_lt, nat_le, List, [], ◌∷◌, ◌++◌, length, drop, Option, Some, None, if◌then◌else◌}
+use Rattle.std.specs.Prelude.{◌≡◌, ℕ, zero, suc, ◌+◌, ◌==◌, ◌&&◌, ◌||◌, Bool, true, false, nat_le, List, [], ◌∷◌, ◌++◌, length, drop, Option, Some, None, if◌then◌else◌}
 use Rattle.sel_grammar.specs.Limits as limits
 use Rattle.sel_grammar.specs.Limits.{most_names}
 use Rattle.sel_grammar_text.specs.Blanks.{skip}
 use Rattle.sel_grammar_text.specs.Tokens.{Token, Name, Integer, Quoted, Unclosed, Code, OpenCode, Open, Close, Comma, token_of}
 use Rattle.sel_grammar_text.specs.Form.{GoesOn}
 use Rattle.sel_grammar_text.specs.Items.{Word, word}
-use Rattle.sel_grammar_text.specs.CostText.{wrong_cost}
+use Rattle.sel_grammar_text.specs.CostText.{and_then, wrong_cost}
 use Rattle.sel_grammar_text.specs.Spots.{Spot, behind, after, tokens, first_spots, here}
 use Rattle.sel_grammar_text.specs.Cutting.{cutting}
 use Rattle.sel_grammar_text.specs.declared.fault.Fault.{Fault}
@@ -63,9 +63,9 @@ closes_to (suc n) bytes = elim (behind_further bytes) [ None ↦ is_close (token
 abbrev pub closes : List ℕ → Bool
 closes bytes = closes_to (suc (length bytes)) bytes
 
--- two or more Integers with commas between them, and `)`
+-- three or more Integers with commas between them, and `)`
 abbrev pub is_cost_list : List ℕ → Bool
-is_cost_list bytes = is_integer (token_in bytes) && (elim (behind_further (behind bytes)) as (λ _. Bool) [ None ↦ false | Some rest ↦ closes rest ])
+is_cost_list bytes = is_integer (token_in bytes) && (elim (and_then (behind_further (behind bytes)) behind_further) as (λ _. Bool) [ None ↦ false | Some rest ↦ closes rest ])
 
 -- the last spot is an Integer
 abbrev pub ends_integer : List Spot → Bool

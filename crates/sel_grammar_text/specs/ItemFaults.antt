@@ -1,5 +1,5 @@
 -- The fault of an item that has none of form: that of the first check, in this order, that gives a place.
-use Rattle.std.specs.Prelude.{◌≡◌, ℕ, List, [], ◌∷◌, ◌++◌, Option, Some, None}
+use Rattle.std.specs.Prelude.{ℕ, List, [], ◌∷◌, ◌++◌, Option, None}
 use Rattle.sel_grammar.specs.Limits as limits
 use Rattle.sel_grammar_text.specs.Items.{Item}
 use Rattle.sel_grammar_text.specs.Faults.{fault_at, or_fault}

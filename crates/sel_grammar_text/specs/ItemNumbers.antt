@@ -1,8 +1,8 @@
 -- What an item's words are: numbers, and a place for a template.
-use Rattle.std.specs.Prelude.{ℕ, ◌+◌, ◌^◌, ◌<◌, ◌≤◌, Option, Some, None, if◌then◌else◌, drop, length}
+use Rattle.std.specs.Prelude.{◌+◌, ◌^◌, ◌<◌, ◌≤◌, Option, Some, None, if◌then◌else◌, drop, length}
 use Rattle.std.specs.Str.Parse.{digits_value, AllDigits}
 use Rattle.sel_grammar.specs.Limits.{greatest_external}
-use Rattle.sel_grammar_text.specs.Items.{Word, CostText, NoCost, Amount, Ranged, TailText, OneLine, Burg, Item, EntryItem, RuleItem}
+use Rattle.sel_grammar_text.specs.Items.{Word, AmountText, CostText, NoCost, Amount, Ranged, TailText, OneLine, Burg, Item, EntryItem, RuleItem}
 use Rattle.sel_grammar_text.specs.Checks.{begins_with_minus}
 use Rattle.sel_grammar_text.specs.Spots.{Spot}
 use Rattle.sel_grammar_text.specs.Tokens.{Token, Integer, width}
@@ -15,14 +15,21 @@ abbrev pub IsNumberIfAny : Option Word → Type 0
 IsNumberIfAny None = Unit {0}
 IsNumberIfAny (Some w) = IsNumber w
 
+abbrev pub HasNumbersInAmount : AmountText → Type 0
+HasNumbersInAmount a = IsNumber a.first × IsNumberIfAny a.second
+
+abbrev pub HasNumbersIfAny : Option AmountText → Type 0
+HasNumbersIfAny None = Unit {0}
+HasNumbersIfAny (Some a) = HasNumbersInAmount a
+
 -- digits, or a minus sign and digits
 abbrev pub IsBound : Word → Type 0
 IsBound w = AllDigits 10 (if begins_with_minus w.bytes then drop 1 w.bytes else w.bytes)
 
 abbrev pub HasNumbersInCost : CostText → Type 0
 HasNumbersInCost NoCost = Unit {0}
-HasNumbersInCost (Amount w) = IsNumber w
-HasNumbersInCost (Ranged at lo hi addend) = IsBound lo × IsBound hi × IsNumberIfAny addend
+HasNumbersInCost (Amount a) = HasNumbersInAmount a
+HasNumbersInCost (Ranged at lo hi addend) = IsBound lo × IsBound hi × HasNumbersIfAny addend
 
 -- the word stands in a text that isn't too long
 abbrev pub IsWithin : Word → Type 0
@@ -30,7 +37,7 @@ IsWithin w = w.at + length w.bytes < 2 ^ 63
 
 abbrev pub HasNumbersInTail : TailText → Type 0
 HasNumbersInTail (OneLine w cost) = IsWithin w × HasNumbersInCost cost
-HasNumbersInTail (Burg external cost) = IsNumber external × IsNumberIfAny cost
+HasNumbersInTail (Burg external cost) = IsNumber external × HasNumbersIfAny cost
 
 -- the numbers of an item consist of digits, and it stands in a text that isn't too long
 abbrev pub HasNumbers : Item → Type 0

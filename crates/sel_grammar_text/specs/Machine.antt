@@ -3,7 +3,7 @@ use Rattle.std.specs.Prelude.{ℕ, zero, suc, List, [], ◌∷◌, Option, Some,
 use Rattle.sel_grammar_text.specs.Tokens.{Token, Name, Integer, Quoted, Start, Term, Percents, Code, Colon, Equals, Open, Close, Comma, Semi, End}
 use Rattle.sel_grammar_text.specs.Form.{is_small}
 use Rattle.sel_grammar_text.specs.declared.form.State.{State}
-use Rattle.sel_grammar_text.specs.declared.form.State.TheVariants.{Declaring, Starting, Entering, Equating, Ruling, LeftName, Wanted, Named, Closed, External, Numbered, Pricing, Priced, Finishing, Ended}
+use Rattle.sel_grammar_text.specs.declared.form.State.TheVariants.{Declaring, Starting, Entering, Equating, Ruling, LeftName, Wanted, Named, Closed, External, Numbered, Pricing, Priced, Pairing, Paired, Finishing, Ended}
 
 -- behind a pattern, within as many parentheses
 abbrev pub after_pattern : ℕ → Token → Option State
@@ -40,6 +40,9 @@ step Numbered Open = Some Pricing
 step Numbered Semi = Some Ruling
 step Pricing (Integer c) = Some Priced
 step Priced Close = Some Finishing
+step Priced Comma = Some Pairing
+step Pairing (Integer c) = Some Paired
+step Paired Close = Some Finishing
 step Finishing Semi = Some Ruling
 step _ _ = None
 

@@ -6,7 +6,8 @@ use Rattle.sel_grammar.specs.declared.grammar.Grammar.{Grammar}
 use Rattle.sel_grammar.specs.declared.grammar.Operator.{Operator}
 use Rattle.sel_grammar.specs.declared.grammar.Part.{Part}
 use Rattle.sel_grammar.specs.declared.grammar.Rule.{Rule}
-use Rattle.sel_grammar_text.specs.Items.{Word, NoCost, Amount, Ranged, TailText, OneLine, Burg, RuleText, Item, StartItem, EntryItem}
+use Rattle.sel_grammar.specs.declared.grammar.RuleCost.{RuleCost}
+use Rattle.sel_grammar_text.specs.Items.{Word, AmountText, NoCost, Amount, Ranged, TailText, OneLine, Burg, RuleText, Item, StartItem, EntryItem}
 use Rattle.sel_grammar_text.specs.Names.{number_of, operators, rules, nonterminals, uses, first_use}
 use Rattle.sel_grammar_text.specs.Patterns.{pattern_of}
 use Rattle.sel_grammar_text.specs.TemplateText.{template_of}
@@ -22,11 +23,21 @@ abbrev pub number_or_0 : Option Word → ℕ
 number_or_0 None = 0
 number_or_0 (Some w) = digits_value 10 w.bytes
 
-abbrev pub cost_number : TailText → ℕ
-cost_number (OneLine w NoCost) = 0
-cost_number (OneLine w (Amount number)) = digits_value 10 number.bytes
-cost_number (OneLine w (Ranged at lo hi addend)) = number_or_0 addend
-cost_number (Burg external cost) = number_or_0 cost
+-- one number c is the pair (c,0)
+abbrev pub amount_cost : AmountText → RuleCost
+amount_cost a = record { first = digits_value 10 a.first.bytes; second = number_or_0 a.second }
+
+-- an omitted amount is (0,0)
+abbrev pub amount_or_none : Option AmountText → RuleCost
+amount_or_none None = record { first = 0; second = 0 }
+amount_or_none (Some a) = amount_cost a
+
+-- a rule's cost: that of a range is its addend
+abbrev pub cost_of : TailText → RuleCost
+cost_of (OneLine w NoCost) = record { first = 0; second = 0 }
+cost_of (OneLine w (Amount a)) = amount_cost a
+cost_of (OneLine w (Ranged at lo hi addend)) = amount_or_none addend
+cost_of (Burg external cost) = amount_or_none cost
 
 abbrev pub range_of : TailText → Option Range
 range_of (OneLine w (Ranged at lo hi addend)) = Some (record { lo = bound_of lo; hi = bound_of hi })
@@ -47,7 +58,7 @@ rule_of bytes ops nts r = record {
   left = number_of nts r.left.bytes;
   pattern = pattern_of ops nts r.pattern;
   template = record { parts = parts_of_tail r.tail };
-  cost = record { first = cost_number r.tail; second = 0 };
+  cost = cost_of r.tail;
   range = range_of r.tail;
   external = external_of r.tail;
   line = line_of bytes r.left.at;

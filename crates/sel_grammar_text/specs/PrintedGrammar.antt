@@ -1,5 +1,5 @@
 -- How a grammar is printed.
-use Rattle.std.specs.Prelude.{◌≡◌, ℕ, ◌==◌, List, [], ◌++◌, map, Option, Some, None, codes, decimal, slice_index_or, if◌then◌else◌}
+use Rattle.std.specs.Prelude.{◌≡◌, ℕ, ◌==◌, ◌&&◌, List, [], ◌++◌, map, Option, Some, None, codes, decimal, slice_index_or, if◌then◌else◌}
 use Rattle.std.specs.Fmt.{signed_decimal}
 use Rattle.std.specs.List.{flat_map}
 use Rattle.sel_base.specs.declared.range.Range.{Range}
@@ -7,6 +7,7 @@ use Rattle.sel_grammar.specs.declared.grammar.Grammar.{Grammar}
 use Rattle.sel_grammar.specs.declared.grammar.Operator.{Operator}
 use Rattle.sel_grammar.specs.declared.grammar.Pattern.{Pattern, Leaf, Nullary, Unary', Binary', end_of-Pattern, more_of-Pattern}
 use Rattle.sel_grammar.specs.declared.grammar.Rule.{Rule}
+use Rattle.sel_grammar.specs.declared.grammar.RuleCost.{RuleCost}
 use Rattle.sel_grammar_text.specs.GrammarText.{SpellsGrammar}
 use Rattle.sel_grammar_text.specs.Printing.{printed_template}
 
@@ -25,20 +26,30 @@ printed_pattern ops nts (Unary' op s (more_of-Pattern p end_of-Pattern)) = name_
 printed_pattern ops nts (Binary' op s (more_of-Pattern p end_of-Pattern) s' (more_of-Pattern q end_of-Pattern)) =
     name_at ops op ++ (codes "(" ++ (printed_pattern ops nts p ++ (codes "," ++ (printed_pattern ops nts q ++ codes ")"))))
 
--- what a range costs where it holds, unless that is 0
-abbrev pub printed_addend : ℕ → List ℕ
-printed_addend cost = if cost == 0 then [] else codes "+" ++ decimal cost
+-- the second number of a pair, unless that is 0
+abbrev pub printed_second : ℕ → List ℕ
+printed_second second = if second == 0 then [] else codes "," ++ decimal second
 
--- the cost of a one-line rule: a number, or a range with its addend
-abbrev pub printed_cost : ℕ → Option Range → List ℕ
-printed_cost cost None = decimal cost
-printed_cost cost (Some range) = codes "range(a," ++ (signed_decimal range.lo ++ (codes "," ++ (signed_decimal range.hi ++ (codes ")" ++ printed_addend cost))))
+-- `N` where the second number is 0, and otherwise `(N,M)`
+abbrev pub printed_amount : RuleCost → List ℕ
+printed_amount cost = if cost.second == 0 then decimal cost.first else codes "(" ++ (decimal cost.first ++ (codes "," ++ (decimal cost.second ++ codes ")")))
 
--- A rule's tail: that of a BURG rule where it gives itself a number, else a template and a cost. Only a cost's first
--- number is printed: texts spell no second one, so it is 0 in each grammar that a text spells.
+-- what a range costs where it holds, unless that is (0,0)
+abbrev pub printed_addend : RuleCost → List ℕ
+printed_addend cost = if (cost.first == 0) && (cost.second == 0) then [] else codes "+" ++ printed_amount cost
+
+abbrev pub printed_range : Range → List ℕ
+printed_range range = codes "range(a," ++ (signed_decimal range.lo ++ (codes "," ++ (signed_decimal range.hi ++ codes ")")))
+
+-- the cost of a one-line rule: an amount, or a range with its addend
+abbrev pub printed_cost : RuleCost → Option Range → List ℕ
+printed_cost cost None = printed_amount cost
+printed_cost cost (Some range) = printed_range range ++ printed_addend cost
+
+-- A rule's tail: that of a BURG rule where it gives itself a number, else a template and a cost.
 abbrev pub printed_tail : Option ℕ → Rule → List ℕ
-printed_tail (Some external) rule = codes " = " ++ (decimal external ++ (codes " (" ++ (decimal rule.cost.first ++ codes ");")))
-printed_tail None rule = codes " \"" ++ (printed_template rule.template.parts ++ (codes "\" " ++ printed_cost rule.cost.first rule.range))
+printed_tail (Some external) rule = codes " = " ++ (decimal external ++ (codes " (" ++ (decimal rule.cost.first ++ (printed_second rule.cost.second ++ codes ");"))))
+printed_tail None rule = codes " \"" ++ (printed_template rule.template.parts ++ (codes "\" " ++ printed_cost rule.cost rule.range))
 
 -- a rule on its line
 abbrev pub printed_rule : List (List ℕ) → List (List ℕ) → Rule → List ℕ

@@ -1,5 +1,5 @@
 -- What a reader knows of a text.
-use Rattle.std.specs.Prelude.{◌≡◌, ℕ, suc, ◌-◌, Bool, true, false, List, [], length, take, Some}
+use Rattle.std.specs.Prelude.{◌≡◌, ℕ, suc, ◌-◌, true, List, [], length, take, Some}
 use Rattle.sel_grammar_text.specs.Spots.{after, tokens, first_spots, here}
 use Rattle.sel_grammar_text.specs.Names.{rules}
 use Rattle.sel_grammar_text.specs.Cutting.{cutting}

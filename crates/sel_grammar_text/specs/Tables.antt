@@ -9,7 +9,7 @@ use Rattle.sel_grammar_text.specs.Words as words
 use Rattle.sel_grammar_text.specs.Names.{is_among, number_of, operators, rules, nonterminal_words, with_words, nonterminals, uses}
 use Rattle.sel_grammar_text.specs.Checks.{large_in_tail}
 use Rattle.sel_grammar_text.specs.ItemNumbers.{HasNumbers, HasExternal}
-use Rattle.sel_grammar_text.specs.Meaning.{operators_of, rule_of, parts_of_tail, cost_number, range_of, external_of}
+use Rattle.sel_grammar_text.specs.Meaning.{operators_of, rule_of, parts_of_tail, cost_of, range_of, external_of}
 use Rattle.sel_grammar_text.specs.Patterns.{pattern_of}
 use Rattle.sel_grammar_text.specs.GrammarText.{nonterminal_uses}
 use Rattle.sel_grammar_text.specs.Places.{line_of, column_of}
@@ -40,7 +40,7 @@ rule_at line column ops nts r = record {
   left = number_of nts r.left.bytes;
   pattern = pattern_of ops nts r.pattern;
   template = record { parts = parts_of_tail r.tail };
-  cost = record { first = cost_number r.tail; second = 0 };
+  cost = cost_of r.tail;
   range = range_of r.tail;
   external = external_of r.tail;
   line = line;

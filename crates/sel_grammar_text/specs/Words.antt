@@ -6,6 +6,7 @@ use Rattle.sel_grammar_text.specs.Spots as spots
 use Rattle.sel_grammar_text.specs.Pieces.{view}
 use Rattle.sel_grammar_text.specs.declared.words.Spot.{Spot}
 use Rattle.sel_grammar_text.specs.declared.words.TextWord.{TextWord}
+use Rattle.sel_grammar_text.specs.declared.words.WrittenAmount.{WrittenAmount}
 use Rattle.sel_grammar_text.specs.declared.words.WrittenCost.{WrittenCost}
 use Rattle.sel_grammar_text.specs.declared.words.WrittenCost.TheVariants.{Absent, Amount, Ranged}
 use Rattle.sel_grammar_text.specs.declared.words.Tail.{Tail}
@@ -21,14 +22,17 @@ view_spot s = record { token = view s.piece; at = s.at }
 abbrev pub view_word : TextWord → items.Word
 view_word w = word w.at w.bytes.now
 
+abbrev pub view_amount : WrittenAmount → items.AmountText
+view_amount a = record { first = view_word a.first; second = option_map view_word a.second }
+
 abbrev pub view_cost : WrittenCost → items.CostText
 view_cost Absent = items.NoCost
-view_cost (Amount w) = items.Amount (view_word w)
-view_cost (Ranged at lo hi addend) = items.Ranged at (view_word lo) (view_word hi) (option_map view_word addend)
+view_cost (Amount a) = items.Amount (view_amount a)
+view_cost (Ranged at lo hi addend) = items.Ranged at (view_word lo) (view_word hi) (option_map view_amount addend)
 
 abbrev pub view_tail : Tail → items.TailText
 view_tail (OneLine w cost) = items.OneLine (view_word w) (view_cost cost)
-view_tail (Burg external cost) = items.Burg (view_word external) (option_map view_word cost)
+view_tail (Burg external cost) = items.Burg (view_word external) (option_map view_amount cost)
 
 abbrev pub view_named : Named → items.Word × ℕ
 view_named n = (view_word n.word, n.kids)

@@ -4,10 +4,10 @@ ghost use Rattle.std.specs.Prelude.{◌≡◌, ◌+◌, ◌<◌, ◌≤◌, ◌^
 ghost use Rattle.std.specs.Option.{option_map};
 ghost use Rattle.sel_grammar_text.specs.CostText as cost;
 ghost use Rattle.sel_grammar_text.specs.CostPieces.{view, tokens_of};
-ghost use Rattle.sel_grammar_text.specs.Words.{view_word, view_cost};
+ghost use Rattle.sel_grammar_text.specs.Words.{view_word, view_amount, view_cost};
 
 use crate::tokens::{behind, digits_len, name_len, skip};
-use crate::words::{TextWord, WrittenCost};
+use crate::words::{TextWord, WrittenAmount, WrittenCost};
 use sel_grammar::names::is_letter;
 
 /// A token of a cost: a name, digits, digits behind their sign, or a single byte.
@@ -154,17 +154,64 @@ fn read_number(rest: CostRest<'_>) -> Option<TextWord<'_>>
     }
 }
 
-/// The addend behind a range, which may be absent.
-fn read_addend(rest: CostRest<'_>) -> Option<Option<TextWord<'_>>>
+/// A number, and what stands behind it.
+fn read_digits(rest: CostRest<'_>) -> Option<(TextWord<'_>, CostRest<'_>)>
     requires { rest.at + length rest.bytes.now < 2 ^ 63 }
-    ensures { MatchOption result (cost.read_addend (tokens_of rest.entry) ≡ None) (λ addend. cost.read_addend (tokens_of rest.entry) ≡ Some (option_map view_word addend)) }
+    ensures read { MatchOption result (cost.read_digits (tokens_of rest.entry) ≡ None) (λ r. cost.read_digits (tokens_of rest.entry) ≡ Some (view_word r.0, tokens_of r.1)) }
+    ensures within { IfSome result (λ r. r.1.at + length r.1.bytes.now ≡ rest.entry.at + length rest.entry.bytes.now) }
+{
+    let found = next_piece(rest)?;
+    let CostPiece::Digits(bytes) = found.piece else {
+        return None;
+    };
+    let at = found.at;
+    Some((TextWord { bytes, at }, found.rest))
+}
+
+/// Two numbers with a comma between them and a closing parenthesis, where nothing stands behind it.
+fn read_pair(rest: CostRest<'_>) -> Option<WrittenAmount<'_>>
+    requires { rest.at + length rest.bytes.now < 2 ^ 63 }
+    ensures { MatchOption result (cost.read_pair (tokens_of rest.entry) ≡ None) (λ a. cost.read_pair (tokens_of rest.entry) ≡ Some (view_amount a)) }
+{
+    let (first, rest) = read_digits(rest)?;
+    let rest = behind_single(b',', rest)?;
+    let (second, rest) = read_digits(rest)?;
+    let rest = behind_single(b')', rest)?;
+    match next_piece(rest) {
+        None => Some(WrittenAmount {
+            first,
+            second: Some(second),
+        }),
+        Some(_) => None,
+    }
+}
+
+/// The amount that is left: a number, or two in parentheses.
+fn read_amount(rest: CostRest<'_>) -> Option<WrittenAmount<'_>>
+    requires { rest.at + length rest.bytes.now < 2 ^ 63 }
+    ensures { MatchOption result (cost.read_amount (tokens_of rest.entry) ≡ None) (λ a. cost.read_amount (tokens_of rest.entry) ≡ Some (view_amount a)) }
+{
+    if let Some(behind) = behind_single(b'(', rest) {
+        return read_pair(behind);
+    }
+    let first = read_number(rest)?;
+    Some(WrittenAmount {
+        first,
+        second: None,
+    })
+}
+
+/// The addend behind a range, which may be absent.
+fn read_addend(rest: CostRest<'_>) -> Option<Option<WrittenAmount<'_>>>
+    requires { rest.at + length rest.bytes.now < 2 ^ 63 }
+    ensures { MatchOption result (cost.read_addend (tokens_of rest.entry) ≡ None) (λ addend. cost.read_addend (tokens_of rest.entry) ≡ Some (option_map view_amount addend)) }
 {
     if next_piece(rest).is_none() {
         return Some(None);
     }
     let rest = behind_single(b'+', rest)?;
-    let number = read_number(rest)?;
-    Some(Some(number))
+    let amount = read_amount(rest)?;
+    Some(Some(amount))
 }
 
 /// A range behind the word `range`, which stands at a place.
@@ -183,7 +230,7 @@ fn read_range(at: usize, rest: CostRest<'_>) -> Option<WrittenCost<'_>>
     Some(WrittenCost::Ranged(at, lo, hi, addend))
 }
 
-/// The cost that is left: none, a number, or a range.
+/// The cost that is left: none, an amount, or a range.
 fn read_cost(rest: CostRest<'_>) -> Option<WrittenCost<'_>>
     requires { rest.at + length rest.bytes.now < 2 ^ 63 }
     ensures { MatchOption result (cost.read_cost (tokens_of rest.entry) ≡ None) (λ c. cost.read_cost (tokens_of rest.entry) ≡ Some (view_cost c)) }
@@ -194,8 +241,8 @@ fn read_cost(rest: CostRest<'_>) -> Option<WrittenCost<'_>>
     if is_word(&found.piece, b"range") {
         return read_range(found.at, found.rest);
     }
-    let number = read_number(rest)?;
-    Some(WrittenCost::Amount(number))
+    let amount = read_amount(rest)?;
+    Some(WrittenCost::Amount(amount))
 }
 
 /// The cost that the bytes spell, which begin at a place.

@@ -39,8 +39,12 @@ pub enum State {
     Numbered,
     /// The opening parenthesis of a cost.
     Pricing,
-    /// A cost in parentheses.
+    /// The first number of a cost.
     Priced,
+    /// The comma behind the first number of a cost.
+    Pairing,
+    /// The second number of a cost.
+    Paired,
     /// The closing parenthesis of a cost.
     Finishing,
     /// The text's end.
@@ -104,6 +108,9 @@ pub fn step(state: State, piece: &Piece<'_>) -> Option<State>
         (State::Numbered, Piece::Semi) => Some(State::Ruling),
         (State::Pricing, Piece::Integer(_)) => Some(State::Priced),
         (State::Priced, Piece::Close) => Some(State::Finishing),
+        (State::Priced, Piece::Comma) => Some(State::Pairing),
+        (State::Pairing, Piece::Integer(_)) => Some(State::Paired),
+        (State::Paired, Piece::Close) => Some(State::Finishing),
         (State::Finishing, Piece::Semi) => Some(State::Ruling),
         _ => None,
     }

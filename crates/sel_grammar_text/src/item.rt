@@ -1,6 +1,6 @@
 //! What the tokens of an item say.
 
-ghost use Rattle.std.specs.Prelude.{◌≡◌, ◌≤◌, ◌<◌, ◌+◌, ◌^◌, ◌∷◌, [], ℕ, List, map, length, IfOk, MatchOption};
+ghost use Rattle.std.specs.Prelude.{◌≡◌, ◌≤◌, ◌<◌, ◌+◌, ◌^◌, ◌∷◌, [], ℕ, List, map, length, IfOk, MatchOption, option_map};
 ghost use Rattle.std.specs.List.{AllByRecursion};
 ghost use Rattle.sel_grammar_text.specs.Cutting as cutting;
 ghost use Rattle.sel_grammar_text.specs.ItemNumbers.{HasNumbers, IsSpot};
@@ -12,7 +12,7 @@ ghost use Rattle.sel_grammar_text.specs.Words as words;
 
 use crate::cost::cost;
 use crate::tokens::{Piece, next_token};
-use crate::words::{Item, Named, RuleItem, Spot, Tail, TextWord, WrittenCost};
+use crate::words::{Item, Named, RuleItem, Spot, Tail, TextWord, WrittenAmount, WrittenCost};
 use sel_base::NoMemory;
 use std::alloc::Global;
 
@@ -128,6 +128,18 @@ fn next_number<'s, 't>(spots: &'s [Spot<'t>]) -> Option<(TextWord<'t>, &'s [Spot
     None
 }
 
+/// The cost whose numbers stand behind the external one: none, one number, or two.
+fn amount_in<'t>(spots: &[Spot<'t>]) -> Option<WrittenAmount<'t>>
+    ensures { option_map words.view_amount result ≡ cutting.amount_of (cutting.numbers_in (map words.view_spot spots.now)) }
+{
+    let (first, behind) = next_number(spots)?;
+    let second = match next_number(behind) {
+        None => None,
+        Some((number, _)) => Some(number),
+    };
+    Some(WrittenAmount { first, second })
+}
+
 /// The tail whose numbers stand behind its equals sign.
 fn burg_tail<'t>(spots: &[Spot<'t>]) -> Tail<'t>
     ensures { words.view_tail result ≡ cutting.burg_of (cutting.numbers_in (map words.view_spot spots.now)) }
@@ -135,10 +147,7 @@ fn burg_tail<'t>(spots: &[Spot<'t>]) -> Tail<'t>
     let Some((external, behind)) = next_number(spots) else {
         return Tail::Burg(no_word(), None);
     };
-    match next_number(behind) {
-        None => Tail::Burg(external, None),
-        Some((cost, _)) => Tail::Burg(external, Some(cost)),
-    }
+    Tail::Burg(external, amount_in(behind))
 }
 
 /// The tail that a template begins at a place, with what stands behind it on its line.

@@ -4,26 +4,26 @@ ghost use Rattle.std.specs.Prelude.{◌≡◌, ◌≤◌, length, map, None, IfO
 ghost use Rattle.std.specs.Str.Parse.{digits_value};
 ghost use Rattle.std.specs.List.{AllByRecursion};
 ghost use Rattle.sel_grammar.specs.Limits.{most_operators, most_nonterminals, most_kids, greatest_cost};
-ghost use Rattle.sel_grammar_text.specs.Checks.{large_in_tail, large_option};
-ghost use Rattle.sel_grammar_text.specs.ItemNumbers.{HasNumbersInTail, HasExternalInTail, IsNumberIfAny};
+ghost use Rattle.sel_grammar_text.specs.Checks.{large_in_tail, large_option, large_amount, large_amount_if_any};
+ghost use Rattle.sel_grammar_text.specs.ItemNumbers.{HasNumbersInTail, HasExternalInTail, IsNumberIfAny, HasNumbersInAmount, HasNumbersIfAny};
 ghost use Rattle.sel_grammar_text.specs.Meaning as meaning;
 ghost use Rattle.sel_grammar_text.specs.Patterns as patterns;
 ghost use Rattle.sel_grammar_text.specs.Tables.{operator_names, rule_at};
-ghost use Rattle.sel_grammar_text.specs.Words.{view_word, view_named, view_tail, view_rule};
+ghost use Rattle.sel_grammar_text.specs.Words.{view_word, view_amount, view_named, view_tail, view_rule};
 ghost use Rattle.std.specs.Option.{option_map};
 
 use crate::names::{name_number, operator_number};
 use crate::pattern::{PatternName, built_of};
 use crate::template::template;
 use crate::values::{bound_of, value_of};
-use crate::words::{Named, RuleItem, Tail, TextWord, WrittenCost};
+use crate::words::{Named, RuleItem, Tail, TextWord, WrittenAmount, WrittenCost};
 use sel_base::{Name, NoMemory, Range};
 use sel_grammar::limits::{GREATEST_COST, GREATEST_EXTERNAL};
 use sel_grammar::{Operator, Part, Pattern, Rule, RuleCost, Template};
 use std::alloc::Global;
 
 /// A number that may be omitted, and is 0 then.
-fn optional_cost(word: &Option<TextWord<'_>>) -> u16
+fn optional_number(word: &Option<TextWord<'_>>) -> u16
     requires digits { IsNumberIfAny (option_map view_word word.now) }
     requires fits { large_option (option_map view_word word.now) ≡ None }
     ensures { result ≡ meaning.number_or_0 (option_map view_word word.now) }
@@ -34,15 +34,49 @@ fn optional_cost(word: &Option<TextWord<'_>>) -> u16
     }
 }
 
-/// The number of a cost, or the addend of a range.
-fn cost_of(tail: &Tail<'_>) -> u16
+/// The cost that an amount writes.
+fn amount_cost(amount: &WrittenAmount<'_>) -> RuleCost
+    requires digits { HasNumbersInAmount (view_amount amount.now) }
+    requires fits { large_amount (view_amount amount.now) ≡ None }
+    ensures { result ≡ meaning.amount_cost (view_amount amount.now) }
+{
+    RuleCost {
+        first: value_of(&amount.first, GREATEST_COST) as u16,
+        second: optional_number(&amount.second),
+    }
+}
+
+/// No cost.
+fn no_cost() -> RuleCost
+    ensures { result ≡ meaning.amount_or_none None }
+{
+    RuleCost {
+        first: 0,
+        second: 0,
+    }
+}
+
+/// A cost that may be omitted.
+fn optional_cost(amount: &Option<WrittenAmount<'_>>) -> RuleCost
+    requires digits { HasNumbersIfAny (option_map view_amount amount.now) }
+    requires fits { large_amount_if_any (option_map view_amount amount.now) ≡ None }
+    ensures { result ≡ meaning.amount_or_none (option_map view_amount amount.now) }
+{
+    match amount {
+        None => no_cost(),
+        Some(amount) => amount_cost(amount),
+    }
+}
+
+/// The cost, or the addend of a range.
+fn cost_of(tail: &Tail<'_>) -> RuleCost
     requires digits { HasNumbersInTail (view_tail tail.now) }
     requires fits { large_in_tail (view_tail tail.now) ≡ None }
-    ensures { result ≡ meaning.cost_number (view_tail tail.now) }
+    ensures { result ≡ meaning.cost_of (view_tail tail.now) }
 {
     match tail {
-        Tail::OneLine(_, WrittenCost::Absent) => 0,
-        Tail::OneLine(_, WrittenCost::Amount(word)) => value_of(word, GREATEST_COST) as u16,
+        Tail::OneLine(_, WrittenCost::Absent) => no_cost(),
+        Tail::OneLine(_, WrittenCost::Amount(amount)) => amount_cost(amount),
         Tail::OneLine(_, WrittenCost::Ranged(_, _, _, addend)) => optional_cost(addend),
         Tail::Burg(_, cost) => optional_cost(cost),
     }
@@ -161,10 +195,7 @@ pub fn rule_of(
         template: Template {
             parts: sel_base::List::from_vec(parts),
         },
-        cost: RuleCost {
-            first: cost_of(&rule.tail),
-            second: 0,
-        },
+        cost: cost_of(&rule.tail),
         range: range_of(&rule.tail),
         external: external_of(&rule.tail),
         line,

@@ -2,11 +2,11 @@
 
 ghost use Rattle.std.specs.Prelude.{◌≡◌, option_map};
 ghost use Rattle.sel_grammar_text.specs.Checks as checks;
-ghost use Rattle.sel_grammar_text.specs.ItemNumbers.{IsBound, IsNumber, IsNumberIfAny, HasNumbersInCost, HasNumbersInTail};
-ghost use Rattle.sel_grammar_text.specs.Words.{view_word, view_cost, view_tail};
+ghost use Rattle.sel_grammar_text.specs.ItemNumbers.{IsBound, IsNumber, IsNumberIfAny, HasNumbersInAmount, HasNumbersIfAny, HasNumbersInCost, HasNumbersInTail};
+ghost use Rattle.sel_grammar_text.specs.Words.{view_word, view_amount, view_cost, view_tail};
 
 use crate::number::number;
-use crate::words::{Tail, TextWord, WrittenCost};
+use crate::words::{Tail, TextWord, WrittenAmount, WrittenCost};
 use sel_grammar::limits::GREATEST_COST;
 
 /// The number is greater than a cost may be.
@@ -27,6 +27,27 @@ fn large_option(word: &Option<TextWord<'_>>) -> Option<usize>
     match word {
         None => None,
         Some(word) => large_cost(word),
+    }
+}
+
+/// The first of the amount's numbers that is too large.
+fn large_amount(amount: &WrittenAmount<'_>) -> Option<usize>
+    requires { HasNumbersInAmount (view_amount amount.now) }
+    ensures { result ≡ checks.large_amount (view_amount amount.now) }
+{
+    if let Some(at) = large_cost(&amount.first) {
+        return Some(at);
+    }
+    large_option(&amount.second)
+}
+
+fn large_amount_if_any(amount: &Option<WrittenAmount<'_>>) -> Option<usize>
+    requires { HasNumbersIfAny (option_map view_amount amount.now) }
+    ensures { result ≡ checks.large_amount_if_any (option_map view_amount amount.now) }
+{
+    match amount {
+        None => None,
+        Some(amount) => large_amount(amount),
     }
 }
 
@@ -57,7 +78,7 @@ fn large_in_cost(cost: &WrittenCost<'_>) -> Option<usize>
 {
     match cost {
         WrittenCost::Absent => None,
-        WrittenCost::Amount(word) => large_cost(word),
+        WrittenCost::Amount(amount) => large_amount(amount),
         WrittenCost::Ranged(_, lo, hi, addend) => {
             if let Some(at) = large_bound(lo) {
                 return Some(at);
@@ -65,7 +86,7 @@ fn large_in_cost(cost: &WrittenCost<'_>) -> Option<usize>
             if let Some(at) = large_bound(hi) {
                 return Some(at);
             }
-            large_option(addend)
+            large_amount_if_any(addend)
         }
     }
 }
@@ -77,6 +98,6 @@ pub fn large_in_tail(tail: &Tail<'_>) -> Option<usize>
 {
     match tail {
         Tail::OneLine(_, cost) => large_in_cost(cost),
-        Tail::Burg(_, cost) => large_option(cost),
+        Tail::Burg(_, cost) => large_amount_if_any(cost),
     }
 }

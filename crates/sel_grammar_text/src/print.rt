@@ -10,7 +10,7 @@ ghost use Rattle.sel_grammar_text.specs.PrintedGrammar as spec;
 
 use itoa::Buffer;
 use sel_base::{List, Name, NoMemory, Range};
-use sel_grammar::{Grammar, Operator, Part, Pattern, Rule};
+use sel_grammar::{Grammar, Operator, Part, Pattern, Rule, RuleCost};
 use std::alloc::Global;
 
 fn put(text: &mut Vec<u8>, bytes: &[u8]) -> Result<(), NoMemory>
@@ -128,27 +128,57 @@ fn put_template(text: &mut Vec<u8>, parts: &[Part]) -> Result<(), NoMemory>
     Ok(())
 }
 
-fn put_addend(text: &mut Vec<u8>, cost: u16) -> Result<(), NoMemory>
+/// The second number behind a comma, unless it is 0.
+fn put_second(text: &mut Vec<u8>, second: u16) -> Result<(), NoMemory>
+    ensures { OnOk result (text.new.items ≡ text.old.items ++ spec.printed_second second) }
+{
+    if second == 0 {
+        return Ok(());
+    }
+    put(text, b",")?;
+    put_number(text, second as u32)
+}
+
+fn put_amount(text: &mut Vec<u8>, cost: RuleCost) -> Result<(), NoMemory>
+    ensures { OnOk result (text.new.items ≡ text.old.items ++ spec.printed_amount cost) }
+{
+    if cost.second == 0 {
+        return put_number(text, cost.first as u32);
+    }
+    put(text, b"(")?;
+    put_number(text, cost.first as u32)?;
+    put(text, b",")?;
+    put_number(text, cost.second as u32)?;
+    put(text, b")")
+}
+
+fn put_addend(text: &mut Vec<u8>, cost: RuleCost) -> Result<(), NoMemory>
     ensures { OnOk result (text.new.items ≡ text.old.items ++ spec.printed_addend cost) }
 {
-    if cost == 0 {
+    if cost.first == 0 && cost.second == 0 {
         return Ok(());
     }
     put(text, b"+")?;
-    put_number(text, cost as u32)
+    put_amount(text, cost)
 }
 
-fn put_cost(text: &mut Vec<u8>, cost: u16, range: Option<Range>) -> Result<(), NoMemory>
-    ensures { OnOk result (text.new.items ≡ text.old.items ++ spec.printed_cost cost range) }
+fn put_range(text: &mut Vec<u8>, range: Range) -> Result<(), NoMemory>
+    ensures { OnOk result (text.new.items ≡ text.old.items ++ spec.printed_range range) }
 {
-    let Some(range) = range else {
-        return put_number(text, cost as u32);
-    };
     put(text, b"range(a,")?;
     put_signed(text, range.lo)?;
     put(text, b",")?;
     put_signed(text, range.hi)?;
-    put(text, b")")?;
+    put(text, b")")
+}
+
+fn put_cost(text: &mut Vec<u8>, cost: RuleCost, range: Option<Range>) -> Result<(), NoMemory>
+    ensures { OnOk result (text.new.items ≡ text.old.items ++ spec.printed_cost cost range) }
+{
+    let Some(range) = range else {
+        return put_amount(text, cost);
+    };
+    put_range(text, range)?;
     put_addend(text, cost)
 }
 
@@ -161,13 +191,14 @@ fn put_tail(text: &mut Vec<u8>, rule: &Rule) -> Result<(), NoMemory>
             put_number(text, external)?;
             put(text, b" (")?;
             put_number(text, rule.cost.first as u32)?;
+            put_second(text, rule.cost.second)?;
             put(text, b");")
         }
         None => {
             put(text, b" \"")?;
             put_template(text, rule.template.parts.as_slice())?;
             put(text, b"\" ")?;
-            put_cost(text, rule.cost.first, rule.range)
+            put_cost(text, rule.cost, rule.range)
         }
     }
 }
@@ -214,7 +245,7 @@ fn put_rules(text: &mut Vec<u8>, grammar: &Grammar) -> Result<(), NoMemory>
 }
 
 /// The grammar's text: the start symbol, the operators with their numbers, `%%`, and a rule on each
-/// line. A rule's place isn't in it, and neither is the second number of a cost.
+/// line. A rule's place isn't in it.
 pub fn print_grammar(alloc: Global, grammar: &Grammar) -> Result<List<u8>, NoMemory>
     ensures exact { IfOk result (λ text. text ≡ spec.printed grammar.now) }
     ensures again { IfOk result (λ text. (source : List ℕ) → SpellsGrammar source grammar.now → spec.SpellsAgain text grammar.now) }

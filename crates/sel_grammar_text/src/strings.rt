@@ -100,7 +100,7 @@ fn closes(bytes: &[u8]) -> bool
     matches!(next_token(left).piece, Piece::Close)
 }
 
-/// Whether two or more Integers with commas between them follow, and then `)`.
+/// Whether three or more Integers with commas between them follow, and then `)`.
 pub fn is_cost_list(bytes: &[u8]) -> bool
     ensures { result ≡ faults.is_cost_list bytes.now }
 {
@@ -108,7 +108,10 @@ pub fn is_cost_list(bytes: &[u8]) -> bool
     let Piece::Integer(_) = first.piece else {
         return false;
     };
-    match behind_further(first.behind) {
+    let Some(second) = behind_further(first.behind) else {
+        return false;
+    };
+    match behind_further(second) {
         None => false,
         Some(rest) => closes(rest),
     }

@@ -9,6 +9,7 @@ use std::test::Fail;
 mod costs;
 mod faults;
 mod limits;
+mod pairs;
 mod printed;
 mod templates;
 mod texts;

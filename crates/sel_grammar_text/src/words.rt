@@ -16,13 +16,20 @@ pub struct TextWord<'t> {
     pub at: usize,
 }
 
-/// The cost of a one-line rule: none, a number, or a range, with the place of the word `range`, the
+/// An amount: a number, and a second one where two stand in parentheses.
+#[derive(Clone, Copy, Debug)]
+pub struct WrittenAmount<'t> {
+    pub first: TextWord<'t>,
+    pub second: Option<TextWord<'t>>,
+}
+
+/// The cost of a one-line rule: none, an amount, or a range, with the place of the word `range`, the
 /// bounds with their signs, and the addend.
 #[derive(Clone, Copy, Debug)]
 pub enum WrittenCost<'t> {
     Absent,
-    Amount(TextWord<'t>),
-    Ranged(usize, TextWord<'t>, TextWord<'t>, Option<TextWord<'t>>),
+    Amount(WrittenAmount<'t>),
+    Ranged(usize, TextWord<'t>, TextWord<'t>, Option<WrittenAmount<'t>>),
 }
 
 /// A rule's tail: the template's bytes from behind the quote on, with the cost, or the external
@@ -30,7 +37,7 @@ pub enum WrittenCost<'t> {
 #[derive(Clone, Copy, Debug)]
 pub enum Tail<'t> {
     OneLine(TextWord<'t>, WrittenCost<'t>),
-    Burg(TextWord<'t>, Option<TextWord<'t>>),
+    Burg(TextWord<'t>, Option<WrittenAmount<'t>>),
 }
 
 /// A name of a pattern, and how many kids it has.

@@ -85,20 +85,21 @@ fn a_range_has_its_form(rt: HostRuntime) -> Result<(), Fail> {
 }
 
 #[test]
-fn a_burg_rule_has_one_cost(rt: HostRuntime) -> Result<(), Fail> {
+fn a_burg_rule_has_no_list_of_costs(rt: HostRuntime) -> Result<(), Fail> {
     let cases = [
-        Refused("a: X = 1 (1,2);", COST_FORM, 3, 10),
         Refused("a: X = 1 (1,2,3);", COST_FORM, 3, 10),
-        Refused("a: X = 1\n (1 /* */ ,\n 2 );", COST_FORM, 4, 2),
+        Refused("a: X = 1 (1,2,3) ;", COST_FORM, 3, 10),
+        Refused("a: X = 1 (1,2,3,4,5);", COST_FORM, 3, 10),
+        Refused("a: X = 1\n (1 /* */ ,\n 2 , 3 );", COST_FORM, 4, 2),
         // The list's numbers may be as great as they like.
-        Refused("a: X = 1 (65536,99999999999999999999);", COST_FORM, 3, 10),
+        Refused("a: X = 1 (65536,0,99999999999999999999);", COST_FORM, 3, 10),
         // The list comes before what is wrong behind it, and behind what is wrong before it.
-        Refused("a: X = 1 (1,2) b", COST_FORM, 3, 10),
-        Refused("a: X = 1 (1,2)", COST_FORM, 3, 10),
-        Refused("a: X = 1 (1,2) /* b", COST_FORM, 3, 10),
-        Refused("a: X = 4294967296 (1,2);", TOKEN, 3, 8),
+        Refused("a: X = 1 (1,2,3) b", COST_FORM, 3, 10),
+        Refused("a: X = 1 (1,2,3)", COST_FORM, 3, 10),
+        Refused("a: X = 1 (1,2,3) /* b", COST_FORM, 3, 10),
+        Refused("a: X = 4294967296 (1,2,3);", TOKEN, 3, 8),
         // A fault of form comes before every check.
-        Refused("X: X(X) = 1 (1,2);", COST_FORM, 3, 13),
+        Refused("X: X(X) = 1 (1,2,3);", COST_FORM, 3, 13),
     ];
     refuse(&rt, rt.alloc(), THREE_OPERATORS, &cases)
 }

@@ -239,14 +239,14 @@ fn a_burg_rule_has_its_form(rt: HostRuntime) -> Result<(), Fail> {
         Refused("a: X = 1 (range(a,0,1));", TOKEN, 3, 11),
         // Where a list of costs isn't closed, no text goes on with its comma.
         Refused("a: X = 1 (,1);", TOKEN, 3, 11),
-        Refused("a: X = 1 (1,x);", TOKEN, 3, 12),
-        Refused("a: X = 1 (1,);", TOKEN, 3, 12),
-        Refused("a: X = 1 (1,2;", TOKEN, 3, 12),
-        Refused("a: X = 1 (1,2", TOKEN, 3, 12),
-        Refused("a: X = 1 (1,2,x);", TOKEN, 3, 12),
+        Refused("a: X = 1 (1,x);", TOKEN, 3, 13),
+        Refused("a: X = 1 (1,);", TOKEN, 3, 13),
+        Refused("a: X = 1 (1,2;", TOKEN, 3, 14),
+        Refused("a: X = 1 (1,2", TOKEN, 3, 14),
+        Refused("a: X = 1 (1,2,x);", TOKEN, 3, 14),
         Refused("a: X = 1 (1 2,3);", TOKEN, 3, 13),
-        Refused("a: X = 1 (1,2 /* ) */", TOKEN, 3, 12),
-        Refused("a: X = 1 (1,2 /* );", TOKEN, 3, 12),
+        Refused("a: X = 1 (1,2 /* ) */", TOKEN, 3, 22),
+        Refused("a: X = 1 (1,2 /* );", TOKEN, 3, 15),
     ];
     refuse(&rt, rt.alloc(), THREE_OPERATORS, &cases)
 }

@@ -1,4 +1,4 @@
-use Rattle.std.proofs.Common.{◌≡◌, ◌++◌, ◌<◌, map, take, drop, length}
+use Rattle.std.proofs.Common.{◌≡◌, ◌++◌, map, take, drop}
 use Rattle.sel_grammar_text.specs.Tables.{with_use}
 use Rattle.sel_grammar_text.specs.Words.{view_named}
 use Rattle.sel_grammar_text.proofs.arity.note_use.Given as goal

@@ -1,12 +1,8 @@
-use Rattle.std.proofs.Common.{◌≡◌, ◌∙◌, ap, sym, rules, length, cond, true, false, None, nat_le, nat_eq, map}
-use Rattle.sel_grammar.specs.Limits.{most_operators, most_rules}
+use Rattle.std.proofs.Common.{◌≡◌, ◌∙◌, ap, sym, cond, true, false, None, nat_eq, map}
 use Rattle.sel_grammar_text.specs.Checks as checks
 use Rattle.sel_grammar_text.specs.Items as items
-use Rattle.sel_grammar_text.specs.Names as spec
-use Rattle.sel_grammar_text.specs.Tables.{operator_names}
 use Rattle.sel_grammar_text.specs.TemplateText.{pieces, first_sign, ends_line_from}
-use Rattle.sel_grammar_text.specs.Words.{view_item, view_named, view_rule, view_tail, view_word}
-use Rattle.sel_grammar_text.proofs.FromTables.{names_are, operators_counted, rules_counted}
+use Rattle.sel_grammar_text.specs.Words.{view_item, view_named, view_tail, view_word}
 use Rattle.sel_grammar_text.proofs.checks.result_in_fragment.Goals as goal
 
 pub returns-then-is_instruction : goal.returns-then-is_instruction

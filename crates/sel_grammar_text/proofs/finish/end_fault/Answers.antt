@@ -1,6 +1,5 @@
 use Rattle.std.proofs.Common.{◌≡◌, ◌∙◌, ap, sym, rules, length, map, eqb, false, None, Some}
 use Rattle.sel_grammar_text.specs.GrammarText.{first_absent}
-use Rattle.sel_grammar_text.specs.Names as names
 use Rattle.sel_grammar_text.specs.Words.{view_word}
 use Rattle.sel_grammar_text.proofs.FromTables.{no_rules_fault, absent_fault, absent_told, rules_counted}
 use Rattle.sel_grammar_text.proofs.finish.end_fault.Goals as goal

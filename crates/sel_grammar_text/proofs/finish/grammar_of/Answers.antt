@@ -1,5 +1,4 @@
-use Rattle.std.proofs.Common.{◌≡◌, ◌∙◌, rules, option_map}
-use Rattle.sel_grammar.specs.declared.grammar.Grammar.{Grammar}
+use Rattle.std.proofs.Common.{◌≡◌, rules, option_map}
 use Rattle.sel_grammar_text.specs.Tables.{start_number}
 use Rattle.sel_grammar_text.specs.Words.{view_word}
 use Rattle.sel_grammar_text.proofs.FromTables.{grammar_made}

@@ -1,8 +1,6 @@
-use Rattle.std.proofs.Common.{◌≡◌, ◌≤◌, ◌<◌, ◌+◌, ◌++◌, ◌^◌, ◌∷◌, [], ℕ, List, map, length, ◌-◌}
-use Rattle.std.specs.List.{AllByRecursion}
+use Rattle.std.proofs.Common.{◌≡◌, map, length}
 use Rattle.sel_grammar_text.specs.Cutting as cutting
 use Rattle.sel_grammar_text.specs.Words as words
-use Rattle.sel_grammar_text.specs.ItemNumbers.{IsSpot}
 use Rattle.sel_grammar_text.proofs.item.next_number.Given as goal
 
 abbrev pub invariant-spots : goal.invariant-spots

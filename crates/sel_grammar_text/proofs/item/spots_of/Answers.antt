@@ -1,9 +1,8 @@
-use Rattle.std.proofs.Common.{◌≡◌, ◌∙◌, ◌++◌, ◌∷◌, [], ◌-◌, ◌<◌, ◌^◌, ◌+◌, ap, sym, refl, subst, arith, map, length}
+use Rattle.std.proofs.Common.{◌≡◌, ◌∙◌, ◌++◌, ◌∷◌, [], ◌-◌, ap, sym, refl, subst, arith, map, length}
 use Rattle.std.specs.List.{AllByRecursion}
 use Rattle.std.proofs.lemmas.List.{map-append}
 use Rattle.sel_grammar_text.specs.ItemNumbers.{IsSpot}
 use Rattle.sel_grammar_text.specs.Spots.{Spot, spot, first}
-use Rattle.sel_grammar_text.specs.Tokens.{width}
 use Rattle.sel_grammar_text.specs.Pieces.{view}
 use Rattle.sel_grammar_text.specs.Words.{view_spot}
 use Rattle.sel_grammar_text.proofs.ItemWords.{spots_step, all_snoc}

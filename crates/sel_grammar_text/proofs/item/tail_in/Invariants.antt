@@ -1,4 +1,4 @@
-use Rattle.std.proofs.Common.{◌≡◌, ◌≤◌, ◌<◌, ◌+◌, ◌++◌, ◌^◌, ◌∷◌, [], ℕ, List, map, length, ◌-◌}
+use Rattle.std.proofs.Common.{◌≡◌, map, length}
 use Rattle.std.specs.List.{AllByRecursion}
 use Rattle.sel_grammar_text.specs.Cutting as cutting
 use Rattle.sel_grammar_text.specs.Words as words

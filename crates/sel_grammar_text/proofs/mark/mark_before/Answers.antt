@@ -1,4 +1,3 @@
-use Rattle.std.proofs.Common.{[], ◌∷◌, ◌++◌}
 use Rattle.sel_grammar_text.proofs.MarkSteps.{before_last}
 use Rattle.sel_grammar_text.proofs.mark.mark_before.Goals as goal
 

@@ -1,4 +1,4 @@
-use Rattle.std.proofs.Common.{◌≡◌, ap, sym, true, false}
+use Rattle.std.proofs.Common.{◌≡◌, ap, true, false}
 use Rattle.sel_grammar_text.specs.declared.pattern.PatternName.TheVariants.{Operator, Nonterminal}
 use Rattle.sel_grammar_text.specs.Tables.{operator_names}
 use Rattle.sel_grammar_text.specs.Names.{is_among}

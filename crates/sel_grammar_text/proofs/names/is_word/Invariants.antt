@@ -1,7 +1,6 @@
-use Rattle.std.proofs.Common.{◌≡◌, ◌++◌, ℕ, List, map, length}
+use Rattle.std.proofs.Common.{◌≡◌, map, length}
 use Rattle.sel_grammar_text.specs.Names as spec
-use Rattle.sel_grammar_text.specs.Tables.{operator_names, with_uses}
-use Rattle.sel_grammar_text.specs.Words.{view_word, view_named}
+use Rattle.sel_grammar_text.specs.Words.{view_word}
 use Rattle.sel_grammar_text.proofs.names.is_word.Given as goal
 
 abbrev pub invariant-words : goal.invariant-words

@@ -1,4 +1,4 @@
-use Rattle.std.proofs.Common.{◌≡◌, List, ℕ, [], ◌∷◌, ◌++◌, length, refl, ap, sym, ◌∙◌, subst, arith}
+use Rattle.std.proofs.Common.{◌≡◌, List, ℕ, [], ◌∷◌, ◌++◌, length, refl, sym, ◌∙◌, subst, arith}
 use Rattle.sel_grammar_text.specs.Places.{IsPlaceBehind}
 use Rattle.sel_grammar_text.specs.declared.place.Place.{Place}
 use Rattle.sel_grammar_text.proofs.PlaceSteps.{behind_bytes, place_behind}

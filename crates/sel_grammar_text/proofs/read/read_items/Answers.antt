@@ -1,5 +1,5 @@
 -- The loop over a text's items.
-use Rattle.std.proofs.Common.{◌-◌, [], length, refl}
+use Rattle.std.proofs.Common.{refl}
 use Rattle.sel_grammar_text.specs.Machine.{begin}
 use Rattle.sel_grammar_text.specs.Reading.{IsReading}
 use Rattle.sel_grammar_text.proofs.MarkSteps.{mark_added}

@@ -1,5 +1,5 @@
 -- One item taken.
-use Rattle.std.proofs.Common.{◌≡◌, ◌+◌, ◌-◌, ◌<◌, ◌^◌, ℕ, List, [], ◌∷◌, ◌++◌, None, Some, length, take, map, refl, ap, sym, ◌∙◌, subst, arith, length-take}
+use Rattle.std.proofs.Common.{◌≡◌, ◌-◌, ℕ, List, [], ◌∷◌, ◌++◌, None, length, take, map, ap, sym, ◌∙◌, subst, arith, length-take}
 use Rattle.std.specs.List.{AllByRecursion}
 use Rattle.sel_grammar_text.specs.Spots.{first}
 use Rattle.sel_grammar_text.specs.Cutting.{item_of, cutting}

@@ -1,10 +1,7 @@
-use Rattle.std.proofs.Common.{◌≡◌, ◌+◌, ◌≤◌, ◌<◌, ◌∷◌, ◌++◌, ℕ, List, length, map, take, drop}
-use Rattle.sel_grammar_text.specs.Checks as checks
-use Rattle.sel_grammar_text.specs.Items as items
-use Rattle.sel_grammar_text.specs.Meaning.{operators_of}
+use Rattle.std.proofs.Common.{◌≡◌, length, map}
 use Rattle.sel_grammar_text.specs.Names as spec
 use Rattle.sel_grammar_text.specs.Tables.{operator_names}
-use Rattle.sel_grammar_text.specs.Words.{view_named, view_word, view_rule}
+use Rattle.sel_grammar_text.specs.Words.{view_named}
 use Rattle.sel_grammar_text.proofs.rule_checks.is_leaf_name.Given as goal
 
 abbrev pub invariant-names : goal.invariant-names

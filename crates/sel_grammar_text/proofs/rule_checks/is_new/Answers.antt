@@ -1,13 +1,10 @@
-use Rattle.std.proofs.Common.{◌≡◌, ◌∙◌, ap, sym, refl, rules, length, cond, true, false, None, Some, not, ◌||◌, map, ◌∷◌, ◌++◌, [], take, drop, ◌+◌, arith}
-use Rattle.std.specs.Prelude.{nat_lt, bytes_eq}
-use Rattle.sel_grammar.specs.Limits.{most_kids, most_nonterminals}
-use Rattle.sel_grammar_text.specs.Checks as checks
+use Rattle.std.proofs.Common.{◌≡◌, ◌∙◌, ap, sym, rules, true, false, not, ◌||◌, map, ◌∷◌}
+use Rattle.std.specs.Prelude.{bytes_eq}
 use Rattle.sel_grammar_text.specs.Items as items
 use Rattle.sel_grammar_text.specs.Names as spec
-use Rattle.sel_grammar_text.specs.Meaning.{operators_of}
-use Rattle.sel_grammar_text.specs.Tables.{operator_names, arity_in, or_count}
-use Rattle.sel_grammar_text.specs.Words.{view_named, view_rule, view_word}
-use Rattle.sel_grammar_text.proofs.RuleChecks.{wrong_unknown, wrong_known, among_words, leaves-append}
+use Rattle.sel_grammar_text.specs.Tables.{operator_names}
+use Rattle.sel_grammar_text.specs.Words.{view_named}
+use Rattle.sel_grammar_text.proofs.RuleChecks.{among_words}
 use Rattle.sel_grammar_text.proofs.rule_checks.is_new.Goals as goal
 
 pub returns-then-is_name : goal.returns-then-is_name

@@ -1,9 +1,9 @@
-use Rattle.std.proofs.Common.{◌≡◌, ◌∙◌, ap, sym, rules, length, true, false, not, ◌&&◌, eqb, [], get_or, arith, ◌<◌, ◌+◌}
+use Rattle.std.proofs.Common.{◌≡◌, ◌∙◌, sym, rules, true, false, not, ◌&&◌, eqb, [], get_or, arith}
 use Rattle.sel_grammar_text.specs.Names.{is_among}
 use Rattle.sel_grammar_text.specs.Tables.{operator_names}
 use Rattle.sel_grammar_text.specs.Words.{view_named, view_word}
 use Rattle.sel_grammar_text.specs.declared.words.Named.{Named}
-use Rattle.sel_grammar_text.proofs.RuleChecks.{known_to, PastStep, past_no_leaf, past_known, past_new, past_full, from_not_false, from_not_true}
+use Rattle.sel_grammar_text.proofs.RuleChecks.{known_to, past_no_leaf, past_known, past_new, past_full, from_not_false, from_not_true}
 use Rattle.sel_grammar_text.proofs.rule_checks.past_most.Goals as goal
 
 abbrev none : Named

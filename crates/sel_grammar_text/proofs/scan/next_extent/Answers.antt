@@ -1,5 +1,5 @@
 -- The loop over an item's tokens.
-use Rattle.std.proofs.Common.{◌≡◌, ◌+◌, ◌-◌, suc, ◌<◌, length, refl, ap, sym, ◌∙◌, subst, arith, Some, None, Bool, true, false, cond, ◌≤◌}
+use Rattle.std.proofs.Common.{◌≡◌, ◌+◌, ◌-◌, ◌<◌, length, refl, sym, subst, arith, Some, None, Bool, true, false, cond, ◌≤◌}
 use Rattle.sel_grammar_text.specs.Pieces.{view}
 use Rattle.sel_grammar_text.specs.Machine.{wants_cost, is_name}
 use Rattle.sel_grammar_text.specs.FormDecision.{decided_fault}

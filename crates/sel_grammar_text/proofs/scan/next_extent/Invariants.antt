@@ -1,4 +1,4 @@
-use Rattle.std.proofs.Common.{◌≡◌, ◌+◌, ◌≤◌, length}
+use Rattle.std.proofs.Common.{◌+◌, ◌≤◌, length}
 use Rattle.sel_grammar_text.specs.Machine.{open_count}
 use Rattle.sel_grammar_text.proofs.Walking.{Walk}
 use Rattle.sel_grammar_text.proofs.scan.next_extent.Given as goal

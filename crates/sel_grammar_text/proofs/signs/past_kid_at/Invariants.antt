@@ -1,6 +1,6 @@
-use Rattle.std.proofs.Common.{◌≡◌, ◌==◌, ◌+◌, ◌≤◌, ℕ, length, false}
+use Rattle.std.proofs.Common.{◌≡◌, ◌+◌, ◌≤◌, length}
 use Rattle.sel_grammar_text.specs.Checks as checks
-use Rattle.sel_grammar_text.specs.TemplateText.{pieces, first_sign, ends_line_from}
+use Rattle.sel_grammar_text.specs.TemplateText.{pieces, first_sign}
 use Rattle.sel_grammar_text.proofs.signs.past_kid_at.Given as goal
 
 abbrev pub invariant-pieces : goal.invariant-pieces

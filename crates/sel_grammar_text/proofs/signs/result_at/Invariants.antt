@@ -1,6 +1,5 @@
-use Rattle.std.proofs.Common.{◌≡◌, ◌==◌, ◌+◌, ◌≤◌, ℕ, length, false}
-use Rattle.sel_grammar_text.specs.Checks as checks
-use Rattle.sel_grammar_text.specs.TemplateText.{pieces, first_sign, ends_line_from}
+use Rattle.std.proofs.Common.{◌≡◌, ◌==◌, ◌+◌, ◌≤◌, length}
+use Rattle.sel_grammar_text.specs.TemplateText.{pieces, first_sign}
 use Rattle.sel_grammar_text.proofs.signs.result_at.Given as goal
 
 abbrev pub invariant-pieces : goal.invariant-pieces
