@@ -12,3 +12,4 @@ pub mod Ranks
 pub mod Short
 pub mod UsedRules
 pub mod Words
+pub mod LawfulCosts

@@ -5,7 +5,7 @@ use Rattle.sel_grammar.specs.declared.grammar.Grammar.{Grammar}
 use Rattle.sel_grammar.specs.declared.grammar.Operator.{Operator}
 use Rattle.sel_grammar.specs.declared.grammar.Pattern.{Pattern, Leaf, Nullary, Unary', Binary', end_of-Pattern, more_of-Pattern}
 use Rattle.sel_grammar.specs.declared.grammar.Rule.{Rule}
-use Rattle.sel_grammar.specs.Limits.{IsWithinLimits, most_names}
+use Rattle.sel_grammar.specs.Limits.{IsWithinLimits, most_names, greatest_cost}
 use Rattle.sel_grammar.specs.Names.{IsName}
 
 -- how many names a pattern has
@@ -26,11 +26,12 @@ IsPatternOf g (Nullary op) = HasOperator g op 0
 IsPatternOf g (Unary' op s (more_of-Pattern p end_of-Pattern)) = HasOperator g op 1 × IsPatternOf g p
 IsPatternOf g (Binary' op s (more_of-Pattern p end_of-Pattern) s' (more_of-Pattern q end_of-Pattern)) = HasOperator g op 2 × (IsPatternOf g p × IsPatternOf g q)
 
--- The rule's pattern is one of the grammar and not too large, and a range stands only with one operator without kids.
+-- The rule's pattern is one of the grammar and not too large, a range stands only with one operator without kids, and neither number of the cost is too large.
 pub record IsRuleOf (g : Grammar) (rule : Rule) : Type 0 where
   pub pattern : IsPatternOf g rule.pattern
   pub names : names_of rule.pattern ≤ most_names
   pub range : (range : Range) → rule.range ≡ Some range → (op : ℕ) × (rule.pattern ≡ Nullary op)
+  pub cost : ((rule.cost).first ≤ greatest_cost) × ((rule.cost).second ≤ greatest_cost)
 
 -- the grammar is within the limits, and so is each of its rules
 pub record IsLawful (g : Grammar) : Type 0 where

@@ -7,7 +7,7 @@ use Rattle.sel_grammar.specs.Limits.{most_operators, most_nonterminals, most_rul
 use Rattle.sel_grammar_text.specs.declared.fault.Fault.{Fault}
 use Rattle.sel_grammar_text.specs.Items.{Word, RuleText, Item, StartItem, EntryItem, CodeItem, PercentsItem, RuleItem}
 use Rattle.sel_grammar_text.specs.Names.{is_among, operators, rules, nonterminal_words, with_words, nonterminals, uses, first_use}
-use Rattle.sel_grammar_text.specs.Checks.{place_if, differs, has_wrong_kids, first_wrong_kids, is_nullary, range_at}
+use Rattle.sel_grammar_text.specs.Checks.{place_if, differs, has_wrong_kids, first_wrong_kids, is_nullary, range_at, large_in_tail}
 use Rattle.sel_grammar_text.specs.Faults.{or_fault}
 use Rattle.sel_grammar_text.specs.ItemFaults.{check, check_all}
 use Rattle.sel_grammar_text.specs.Tables.{StandsRight}
@@ -22,11 +22,12 @@ pub record IsKnownName (ops nts : List (List ℕ)) (us : List (Word × ℕ)) (n 
   pub first : is_among ops n.0.bytes ≡ true → first_use us n.0.bytes ≡ Some n.1
   pub few : n.1 ≤ most_kids
 
--- a rule's names, and where a range may stand
+-- a rule's names, where a range may stand, and how large its costs are
 pub record IsKnownRule (ops nts : List (List ℕ)) (us : List (Word × ℕ)) (r : RuleText) : Type 0 where
   pub left : is_among nts r.left.bytes ≡ true
   pub names : AllByRecursion (IsKnownName ops nts us) r.pattern
   pub range : (is_nullary ops r.pattern ≡ true) ⊎ (range_at r.tail ≡ None)
+  pub costs : large_in_tail r.tail ≡ None
 
 -- the items are no more than there may be, and their rules are known
 pub record IsKnown (items : List Item) : Type 0 where
@@ -65,6 +66,7 @@ known_stays ops nts us vs words r h = record {
   left = (stays nts words r.left.bytes h.left).among;
   names = all_map (IsKnownName ops nts us) (IsKnownName ops (with_words nts words) (us ++ vs)) r.pattern (name_stays ops nts us vs words) h.names;
   range = h.range;
+  costs = h.costs;
 }
 
 -- a use that differs from no earlier one is as the first
@@ -151,6 +153,7 @@ known_rule before r h passed =
       left = whole.0;
       names = names_known ops (with_words nts ws) (us ++ r.pattern) r.pattern kids.right whole.1 (firsts ops us r.pattern p.arity) kids.few;
       range = range_known (is_nullary ops r.pattern) (range_at r.tail) p.range_place;
+      costs = p.cost_large;
     } in
     let earlier : AllByRecursion (IsKnownRule ops (with_words nts ws) (us ++ r.pattern)) (rules before) =
     all_map (IsKnownRule ops nts us) (IsKnownRule ops (with_words nts ws) (us ++ r.pattern)) (rules before) (known_stays ops nts us r.pattern ws) h.rules_known in

@@ -22,6 +22,7 @@ use Rattle.sel_grammar_text.proofs.Commas.{kids_sum}
 use Rattle.sel_grammar_text.proofs.NameCounts.{HasFewNames}
 use Rattle.sel_grammar_text.proofs.Shape.{IsNameOf, kids_of, built_fits}
 use Rattle.sel_grammar_text.proofs.Known.{IsKnownName, IsKnownRule}
+use Rattle.sel_grammar_text.proofs.TailCosts.{small_tail}
 
 -- the grammar that the items say
 abbrev pub said : List ℕ → List Item → Grammar
@@ -139,4 +140,5 @@ rule_known bytes items r h few =
         | inl y ↦ nullary_known (operators items) (nonterminals items) r.pattern y
         | inr y ↦ let z : Some range ≡ None = sym e ∙ no_range r.tail y in absurd (let w : ⊥ = cc in w)
       ];
+      cost = small_tail r.tail h.costs;
     }

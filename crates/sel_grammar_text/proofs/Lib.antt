@@ -56,3 +56,4 @@ pub mod Known
 pub mod WholeItems
 pub mod KnownPatterns
 pub mod Lawfulness
+mod TailCosts

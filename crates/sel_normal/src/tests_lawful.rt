@@ -1,12 +1,12 @@
 // Whether a grammar that a test built is lawful.
 ghost use Rattle.std.specs.Prelude.{◌≡◌, ◌+◌, ◌≤◌, ◌<◌, ◌⊎◌, ℕ, Some, None, IsTrue, IfSome, length, slice_get};
 ghost use Rattle.sel_grammar.specs.Lawful.{HasOperator, IsLawful, IsPatternOf, IsRuleOf, names_of};
-ghost use Rattle.sel_grammar.specs.Limits.{IsArity};
+ghost use Rattle.sel_grammar.specs.Limits.{IsArity, greatest_cost};
 ghost use Rattle.sel_grammar.specs.declared.grammar.Operator.{Operator};
 ghost use Rattle.sel_grammar.specs.declared.grammar.Rule.{Rule};
 
-use sel_grammar::limits::{MOST_KIDS, MOST_NAMES, MOST_NONTERMINALS, MOST_OPERATORS, MOST_RULES};
-use sel_grammar::{Grammar, Operator, Pattern, Rule};
+use sel_grammar::limits::{GREATEST_COST, MOST_KIDS, MOST_NAMES, MOST_NONTERMINALS, MOST_OPERATORS, MOST_RULES};
+use sel_grammar::{Grammar, Operator, Pattern, Rule, RuleCost};
 
 fn has_operator(grammar: &Grammar, operator: u8, kids: u8) -> bool
     ensures { IsTrue result → HasOperator grammar.now operator kids }
@@ -70,11 +70,17 @@ fn is_range_place(rule: &Rule) -> bool
     }
 }
 
+fn is_small_cost(cost: RuleCost) -> bool
+    ensures { IsTrue result → (cost.first ≤ greatest_cost) × (cost.second ≤ greatest_cost) }
+{
+    cost.first as u32 <= GREATEST_COST && cost.second as u32 <= GREATEST_COST
+}
+
 fn is_rule_of(grammar: &Grammar, rule: &Rule) -> bool
     ensures { IsTrue result → IsRuleOf grammar.now rule.now }
 {
     match names_left(grammar, &rule.pattern, MOST_NAMES as u16) {
-        Some(_) => is_range_place(rule),
+        Some(_) => is_range_place(rule) && is_small_cost(rule.cost),
         None => false,
     }
 }
