@@ -1,0 +1,6 @@
+//! Covers of labelled trees, by any automaton.
+#![tactic(auto)]
+
+mod reducer;
+
+pub use reducer::reduce;
