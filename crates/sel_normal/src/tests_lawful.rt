@@ -5,7 +5,9 @@ ghost use Rattle.sel_grammar.specs.Limits.{IsArity, greatest_cost};
 ghost use Rattle.sel_grammar.specs.declared.grammar.Operator.{Operator};
 ghost use Rattle.sel_grammar.specs.declared.grammar.Rule.{Rule};
 
-use sel_grammar::limits::{GREATEST_COST, MOST_KIDS, MOST_NAMES, MOST_NONTERMINALS, MOST_OPERATORS, MOST_RULES};
+use sel_grammar::limits::{
+    GREATEST_COST, MOST_KIDS, MOST_NAMES, MOST_NONTERMINALS, MOST_OPERATORS, MOST_RULES,
+};
 use sel_grammar::{Grammar, Operator, Pattern, Rule, RuleCost};
 
 fn has_operator(grammar: &Grammar, operator: u8, kids: u8) -> bool
