@@ -1,6 +1,8 @@
 pub mod Automata
 pub mod CostBounds
 pub mod Entries
+pub mod Equality
+pub mod EqualityLaws
 pub mod Follows
 pub mod ItemsOf
 pub mod KidSets
