@@ -36,7 +36,7 @@ cheaper_left : (a b c : Cost) → IsCheaper (a ⊕ c) (b ⊕ c) → IsCheaper a 
 cheaper_left a b c (inl h) = inl (omega arith)
 cheaper_left a b c (inr h) = inr (let e = h.0 in omega arith, lt_left a.second b.second c.second h.1)
 
-cheaper_right : (a b c : Cost) → IsCheaper (a ⊕ b) (a ⊕ c) → IsCheaper b c
+pub cheaper_right : (a b c : Cost) → IsCheaper (a ⊕ b) (a ⊕ c) → IsCheaper b c
 cheaper_right a b c (inl h) = inl (omega arith)
 cheaper_right a b c (inr h) = inr (let e = h.0 in omega arith, lt_right a.second b.second c.second h.1)
 
@@ -46,13 +46,13 @@ firsts_same a b h = ap (λ (c : Cost). c.first) h
 seconds_same : (a b : Cost) → a ≡ b → a.second ≡ b.second
 seconds_same a b h = ap (λ (c : Cost). c.second) h
 
-made : (a b : Cost) → a.first ≡ b.first → a.second ≡ b.second → a ≡ b
+pub made : (a b : Cost) → a.first ≡ b.first → a.second ≡ b.second → a ≡ b
 made a b h k = λ i. record { first = h i; second = k i }
 
 cost_left : (a b c : Cost) → a ⊕ c ≡ b ⊕ c → a ≡ b
 cost_left a b c h = let e = firsts_same (a ⊕ c) (b ⊕ c) h in made a b (omega arith) (same_left a.second b.second c.second (seconds_same (a ⊕ c) (b ⊕ c) h))
 
-cost_right : (a b c : Cost) → a ⊕ b ≡ a ⊕ c → b ≡ c
+pub cost_right : (a b c : Cost) → a ⊕ b ≡ a ⊕ c → b ≡ c
 cost_right a b c h = let e = firsts_same (a ⊕ b) (a ⊕ c) h in made b c (omega arith) (same_right a.second b.second c.second (seconds_same (a ⊕ b) (a ⊕ c) h))
 
 not_self : (x : ℕ) → x < x → ⊥

@@ -1,8 +1,10 @@
 pub mod BestParts
 pub mod Deciders
 pub mod EntryGoals
+pub mod FollowsBack
 pub mod GoalKids
 pub mod ItemLaws
+pub mod KeyRules
 pub mod KidSetLaws
 pub mod Meanings
 pub mod NodeSets
@@ -10,4 +12,5 @@ pub mod OneItems
 pub mod OneSet
 pub mod Rows
 pub mod Shifts
+pub mod SomeItems
 pub mod Subtrees

@@ -1,27 +1,24 @@
 -- A node's item set: from its kids', and as derivations say it.
-use Rattle.std.proofs.Common.{◌≡◌, ℕ, zero, suc, ◌+◌, ◌<◌, ◌⊎◌, inl, inr, [], ◌∷◌, length, refl, ap, subst, sym, ◌∙◌, Option, Some, None, map}
+use Rattle.std.proofs.Common.{◌≡◌, ℕ, zero, suc, ◌+◌, ◌⊎◌, inl, inr, List, [], ◌∷◌, length, refl, ap, subst, sym, ◌∙◌, Option, Some, None, map}
 use Rattle.std.proofs.lemmas.List.{length-map}
 use Rattle.sel_grammar.specs.declared.grammar.Grammar.{Grammar}
-use Rattle.sel_grammar.specs.declared.grammar.Rule.{Rule}
-use Rattle.sel_grammar.specs.declared.grammar.Pattern.{Pattern, Leaf}
+use Rattle.sel_grammar.specs.declared.grammar.Pattern.{Pattern}
 use Rattle.sel_grammar.specs.Costs.{Cost, no_cost, ◌⊕◌}
 use Rattle.sel_grammar.specs.PlainTrees.{PlainTree}
-use Rattle.sel_grammar.specs.Fits.{leaves, rule_at}
+use Rattle.sel_grammar.specs.Fits.{leaves, subtrees}
 use Rattle.sel_grammar.specs.Derivations.{Derivations, DeriveAll, lists}
 use Rattle.sel_grammar.proofs.CostLaws.{sum_assoc}
 use Rattle.sel_grammar.proofs.Order.{IsLexLess-before}
-use Rattle.sel_grammar.specs.Firsts.{LeadAll}
+use Rattle.sel_grammar.specs.Firsts.{AllFirst, LeadAll}
 use Rattle.sel_grammar.proofs.Firsts.{IsBest-first, DeriveAll-first, LeadAll-first}
 use Rattle.sel_grammar.proofs.Ranks.{FreeRanks}
 use Rattle.sel_normal.specs.NormalForms.{NormalForm}
-use Rattle.sel_normal.specs.Forms.{places}
-use Rattle.sel_normal.specs.Cuts.{IsCut}
-use Rattle.sel_normal.specs.Goals.{BeatAll}
+use Rattle.sel_normal.specs.Goals.{BeatAll, IsBestPart}
 use Rattle.sel_items.specs.declared.items.Item.{Item}
 use Rattle.sel_items.specs.declared.items.Items.{Items}
 use Rattle.sel_items.specs.Entries.{ItemRow, item_at, raised, IsReduced}
 use Rattle.sel_items.specs.Follows.{NodeKey, item_cost, Follows}
-use Rattle.sel_items.proofs.Meanings.{kid_trees, operator_of, EntryMeans, PartCosts, GoalsMean, KidsGoals, Decides, IsNodeSet}
+use Rattle.sel_items.proofs.Meanings.{EntryMeans, PartCosts, GoalsMean, IsTreeKey, IsNodeSet}
 use Rattle.sel_items.specs.ItemsOf.{SymbolMeans, PartMeans, IsItemsOf}
 use Rattle.sel_normal.proofs.Steps.{some_same}
 use Rattle.sel_items.proofs.EntryGoals.{GoalsMean-chosen}
@@ -45,17 +42,13 @@ GoalsMean-reduced g t shift least absolute relative m k = record {
 }
 
 -- what follows from the kids' item sets is the node's
-module _ (g : Grammar) (normal : NormalForm) (key : NodeKey) (t : PlainTree) (shift : Cost) (items : Items)
-    (cut : IsCut g normal) (lefts : (r : ℕ) (rule : Rule) → rule_at g r ≡ Some rule → rule.left < length g.nonterminals) (width : normal.nonterminals ≡ length g.nonterminals + length (places g.rules))
-    (kids : KidsGoals g (kid_trees t) shift key.kids) (same_op : key.operator ≡ operator_of t) (decides : Decides g normal key t) (ranks : FreeRanks g)
-    (chains_open : (r : ℕ) (rule : Rule) (m : ℕ) → rule_at g r ≡ Some rule → rule.pattern ≡ Leaf m → rule.range ≡ None)
-    (follows : Follows normal key items) where
+module _ (g : Grammar) (normal : NormalForm) (key : NodeKey) (t : PlainTree) (shift : Cost) (items : Items) (over : IsTreeKey g normal key t shift) (ranks : FreeRanks g) (follows : Follows normal key items) where
   pub IsNodeSet-follows : IsNodeSet g t items
   IsNodeSet-follows = record {
     shift = shift ⊕ follows.least;
-    long = sym (follows.reduced).long ∙ (follows.is_absolute).long ∙ width;
+    long = sym (follows.reduced).long ∙ (follows.is_absolute).long ∙ over.width;
     means = GoalsMean-reduced g t shift follows.least follows.absolute items.entries
-        (GoalsMean-chosen g normal key t shift follows.absolute cut lefts width kids same_op decides follows.is_absolute ranks chains_open) follows.reduced;
+        (GoalsMean-chosen g normal key t shift follows.absolute over follows.is_absolute ranks) follows.reduced;
     lowest = (follows.reduced).lowest;
     reached = go (follows.reduced).reached;
   }
@@ -65,7 +58,7 @@ module _ (g : Grammar) (normal : NormalForm) (key : NodeKey) (t : PlainTree) (sh
       go (inl h) = inl h
       go (inr h) = inr h.0
 
-item_at-map : (f : Option Item → Option Item) (row : ItemRow) (n : ℕ) → f None ≡ None → item_at (map f row) n ≡ f (item_at row n)
+pub item_at-map : (f : Option Item → Option Item) (row : ItemRow) (n : ℕ) → f None ≡ None → item_at (map f row) n ≡ f (item_at row n)
 item_at-map f [] n h = sym h
 item_at-map f (x ∷ row) zero h = refl
 item_at-map f (x ∷ row) (suc n) h = item_at-map f row n h
@@ -74,24 +67,23 @@ symbol_means : (g : Grammar) (n : ℕ) (t : PlainTree) (shift : Cost) (o : Optio
 symbol_means g n t shift None h = h
 symbol_means g n t shift (Some item) (d, f, c, r) = record { best = d; is_best = IsBest-first g d n t f; cost_is = sym c; rule_is = sym r }
 
-part_means : (g : Grammar) (p : Pattern) (helper : ℕ) (t : PlainTree) (shift : Cost) (o : Option Item) → PartCosts g p t shift (item_cost o) → ((item : Item) → o ≡ Some item → item.rule ≡ helper) → PartMeans g p helper t (raised shift o)
-part_means g p helper t shift None h k = λ es w. h w.0 w.1 es w.2
-part_means g p helper t shift (Some item) h k = record {
-  best = h.kids;
-  is_best = record {
-    derives = (h.under, h.lies, DeriveAll-first g h.kids (leaves p) h.under h.firsts);
-    beats = λ es w.
-        let same : w.0 ≡ h.under = some_same (sym w.1 ∙ h.lies) in
-        beat es (LeadAll-first g h.kids es (leaves p) h.under h.firsts (subst (λ ts. DeriveAll g es (leaves p) ts) same w.2));
-  };
-  cost_is = sym h.is;
-  rule_is = k item refl;
+-- a part's best kids one by one are best together
+pub best_part : (g : Grammar) (p : Pattern) (t : PlainTree) (under : List PlainTree) (kids : Derivations) → subtrees p t ≡ Some under → AllFirst g kids (leaves p) under → IsBestPart g kids p t
+best_part g p t under kids lies firsts = record {
+  derives = (under, lies, DeriveAll-first g kids (leaves p) under firsts);
+  beats = λ es w.
+      let same : w.0 ≡ under = some_same (sym w.1 ∙ lies) in
+      beat es (LeadAll-first g kids es (leaves p) under firsts (subst (λ ts. DeriveAll g es (leaves p) ts) same w.2));
 }
   where
-    beat : (es : Derivations) → LeadAll g h.kids es → (es ≡ h.kids) ⊎ BeatAll g h.kids es
+    beat : (es : Derivations) → LeadAll g kids es → (es ≡ kids) ⊎ BeatAll g kids es
     beat es (inl q) = inl q
     beat es (inr (inl q)) = inr (inl q)
-    beat es (inr (inr q)) = inr (inr (q.0, IsLexLess-before (lists h.kids) (lists es) q.1))
+    beat es (inr (inr q)) = inr (inr (q.0, IsLexLess-before (lists kids) (lists es) q.1))
+
+part_means : (g : Grammar) (p : Pattern) (helper : ℕ) (t : PlainTree) (shift : Cost) (o : Option Item) → PartCosts g p t shift (item_cost o) → ((item : Item) → o ≡ Some item → item.rule ≡ helper) → PartMeans g p helper t (raised shift o)
+part_means g p helper t shift None h k = λ es w. h w.0 w.1 es w.2
+part_means g p helper t shift (Some item) h k = record { best = h.kids; is_best = best_part g p t h.under h.kids h.lies h.firsts; cost_is = sym h.is; rule_is = k item refl }
 
 -- a node's item set is that of its tree, by derivations
 pub IsItemsOf-node : (g : Grammar) (t : PlainTree) (items : Items) → IsNodeSet g t items → IsItemsOf g t items

@@ -1,9 +1,14 @@
 //! Laws of item sets. The functions do nothing: their contracts say them.
-ghost use Rattle.sel_items.specs.Laws.{ItemsFollow, FollowsIsOne, ItemsAreOne, ItemsAreKidSets};
+ghost use Rattle.sel_items.specs.Laws.{ItemsFollow, ItemsOfFollow, FollowsIsOne, ItemsAreOne, ItemsExist, ItemsAreKidSets};
 
 /// What follows from the item sets of a node's kids is the item set of the node.
 pub fn items_follow()
     ensures { ItemsFollow }
+{}
+
+/// The other way round: the item set of a node follows from those of the node's kids.
+pub fn items_of_follow()
+    ensures { ItemsOfFollow }
 {}
 
 /// From a key follows one item set at most.
@@ -14,6 +19,11 @@ pub fn follows_is_one()
 /// A tree has one item set at most.
 pub fn items_are_one()
     ensures { ItemsAreOne }
+{}
+
+/// Each tree has an item set under a grammar that is lawful and accepted.
+pub fn items_exist()
+    ensures { ItemsExist }
 {}
 
 /// The item set of a tree of fewer than 2^16 nodes is one that its parent's may be evaluated from.
