@@ -1,6 +1,7 @@
 pub mod BestParts
 pub mod Deciders
 pub mod EntryGoals
+pub mod EntryRules
 pub mod FollowsBack
 pub mod GoalKids
 pub mod ItemLaws
