@@ -27,9 +27,8 @@ use Rattle.sel_items.specs.ItemsOf.{root_rule, SymbolMeans, PartMeans, IsItemsOf
 use Rattle.sel_items.proofs.Meanings.{operator_of, HasPart, PartCosts, IsTreeKey}
 use Rattle.sel_items.proofs.GoalKids.{op_of, first_kid, second_kid}
 use Rattle.sel_items.proofs.KeyRules.{fitting_parts, chain_body, shifted_price, none_plus, left_is, cost_is, body_of, chain_rule, helper_free, priced_by, price_of, known, tested, user_rule, part_candidate, part_known}
-use Rattle.sel_items.proofs.Rows.{no_entry, below_or_not}
-use Rattle.sel_items.proofs.BestParts.{cheaper_right, cost_right}
-use Rattle.sel_items.proofs.NodeSets.{item_at-map, best_part}
+use Rattle.sel_items.proofs.Rows.{item_at-map, no_entry, below_or_not}
+use Rattle.sel_items.proofs.BestParts.{best_part, cheaper_right, cost_right}
 use Rattle.sel_items.proofs.OneItems.{one_kids, by_goals}
 
 same_le : (a b c : ℕ) → a ≡ b → a ≡ c → c ≤ b

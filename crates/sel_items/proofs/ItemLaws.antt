@@ -8,7 +8,6 @@ use Rattle.sel_grammar.specs.Costs.{Cost, no_cost, ◌⊕◌}
 use Rattle.sel_grammar.specs.Fits.{rule_at}
 use Rattle.sel_grammar.specs.Lawful.{IsLawful}
 use Rattle.sel_grammar.specs.PlainTrees.{PlainTree, Node0, Node1, Node2, attribute_of}
-use Rattle.sel_grammar.proofs.Ranks.{free_ranks}
 use Rattle.sel_range.specs.Classes.{class_of}
 use Rattle.sel_range.specs.Limits.{IsAttributeValue}
 use Rattle.sel_normal.specs.NormalForms.{NormalForm}
@@ -16,11 +15,10 @@ use Rattle.sel_normal.proofs.Kept.{form_cut}
 use Rattle.sel_normal.proofs.Steps.{some_none, rule_left}
 use Rattle.sel_items.specs.declared.items.Items.{Items}
 use Rattle.sel_items.specs.Follows.{NodeKey}
-use Rattle.sel_items.specs.ItemsOf.{IsKeyOf, attribute_number}
+use Rattle.sel_items.specs.ItemsOf.{IsItemsOf, IsKeyOf, attribute_number}
 use Rattle.sel_items.specs.Laws.{IsAcceptedForm, ItemsFollow, ItemsOfFollow, FollowsIsOne, ItemsAreOne, ItemsExist}
 use Rattle.sel_items.proofs.Meanings.{kid_trees, operator_of, KidsGoals, Decides, HasRangesPlaced, IsTreeKey}
 use Rattle.sel_items.proofs.Deciders.{Decides-leaf, Decides-kids}
-use Rattle.sel_items.proofs.NodeSets.{IsNodeSet-follows, IsItemsOf-node}
 use Rattle.sel_items.proofs.FollowsBack.{follows_back}
 use Rattle.sel_items.proofs.BestParts.{items_are_nodes}
 use Rattle.sel_items.proofs.OneSet.{follows_one}
@@ -66,10 +64,6 @@ module _ (g : Grammar) (normal : NormalForm) (key : NodeKey) (k : IsAcceptedForm
       let n = items_are_nodes g u j l in
       (m.shift ⊕ n.shift, by_kids (Node2 op a t u) (m.shift ⊕ n.shift) (i ∷ j ∷ []) kids (m.shift, n.shift, refl, m.means, n.means) same (Decides-kids g normal key (Node2 op a t u) (λ o. refl) (ranges_placed g k.lawful)))
 
-pub items_follow : ItemsFollow
-items_follow g normal t key items k small is follows =
-    let w = tree_key g normal key k t small is in IsItemsOf-node g t items (IsNodeSet-follows g normal key t w.0 items w.1 (free_ranks g (k.accepted).free) follows)
-
 pub items_of_follow : ItemsOfFollow
 items_of_follow g normal t key items k small is h = let w = tree_key g normal key k t small is in follows_back g normal key t w.0 w.1 items h
 
@@ -81,3 +75,9 @@ items_are_one = items_one
 
 pub items_exist : ItemsExist
 items_exist g t lawful accepted = some_items g lawful accepted.free t
+
+-- what follows from the key is the item set that there is
+pub items_follow : ItemsFollow
+items_follow g normal t key items k small is follows =
+    let s = items_exist g t k.lawful k.accepted in
+    subst (IsItemsOf g t) (follows_is_one normal key s.0 items (items_of_follow g normal t key s.0 k small is s.1) follows) s.1

@@ -1,16 +1,13 @@
 -- The rules of a normal form at a tree: what the kids of each cost by the key, and which of the user's rules, or which helper, each is.
 use Rattle.std.proofs.Common.{◌≡◌, ℕ, ◌+◌, ◌<◌, ◌⊎◌, inl, inr, List, [], ◌∷◌, length, refl, ap, subst, sym, ◌∙◌, Option, Some, None, Bool, true, false, ◌&&◌, ◌==◌, if◌then◌else◌, slice_get, arith}
-use Rattle.std.proofs.lemmas.Option.{slice_get_within}
 use Rattle.sel_grammar.specs.declared.grammar.Grammar.{Grammar}
 use Rattle.sel_grammar.specs.declared.grammar.Rule.{Rule}
 use Rattle.sel_grammar.specs.declared.grammar.Pattern.{Pattern, Leaf}
-use Rattle.sel_grammar.specs.Costs.{Cost, no_cost, ◌⊕◌, IsCheaper, paid, price}
+use Rattle.sel_grammar.specs.Costs.{Cost, no_cost, ◌⊕◌, paid, price}
 use Rattle.sel_grammar.specs.PlainTrees.{PlainTree, attribute_of}
 use Rattle.sel_grammar.specs.Fits.{leaves, subtrees, fits, rule_at, in_range}
-use Rattle.sel_grammar.specs.Derivations.{Derivations, costs}
 use Rattle.sel_grammar.specs.Firsts.{AllFirst}
-use Rattle.sel_grammar.proofs.CostLaws.{same_sums, sum_none, sum_swap, sum_comm, cheaper_not_both}
-use Rattle.sel_grammar.proofs.Firsts.{DeriveAll-first, LeadAll-first, no_dearer}
+use Rattle.sel_grammar.proofs.CostLaws.{same_sums, sum_none, sum_swap, sum_comm}
 use Rattle.sel_grammar.proofs.Closure.{IsOperator, Outcome, chain_or_not}
 use Rattle.sel_normal.specs.declared.normal.Body.TheVariants.{Chain, Operator}
 use Rattle.sel_normal.specs.declared.normal.NormalRule.{NormalRule}
@@ -22,16 +19,6 @@ use Rattle.sel_items.specs.declared.items.Items.{Items}
 use Rattle.sel_items.specs.Follows.{NodeKey, test_holds, cost_of_kids, operator_cost, IsCandidate}
 use Rattle.sel_items.proofs.Meanings.{PartCosts, KidsGoals, kid_trees, operator_of, IsTreeKey}
 use Rattle.sel_items.proofs.GoalKids.{op_of, first_kid, second_kid, body_is, pattern_known}
-
--- two bests cost the same
-pub same_costs : (g : Grammar) (ds es : Derivations) (ns : List ℕ) (ts : List PlainTree) → AllFirst g ds ns ts → AllFirst g es ns ts → costs g ds ≡ costs g es
-same_costs g ds es ns ts f h =
-    go (no_dearer g ds es (LeadAll-first g ds es ns ts f (DeriveAll-first g es ns ts h))) (no_dearer g es ds (LeadAll-first g es ds ns ts h (DeriveAll-first g ds ns ts f)))
-  where
-    go : (costs g ds ≡ costs g es) ⊎ IsCheaper (costs g ds) (costs g es) → (costs g es ≡ costs g ds) ⊎ IsCheaper (costs g es) (costs g ds) → costs g ds ≡ costs g es
-    go (inl q) k = q
-    go (inr q) (inl k) = sym k
-    go (inr q) (inr k) = absurd (cheaper_not_both (costs g ds) (costs g es) q k)
 
 both_true : (p q : Bool) (o : Option Cost) (k : Cost) → (if p && q then o else None) ≡ Some k → (q ≡ true) × ((if p then o else None) ≡ Some k)
 both_true true true o k h = (refl, h)
@@ -162,6 +149,3 @@ module _ {g : Grammar} {normal : NormalForm} {key : NodeKey} {t : PlainTree} {sh
   part_known j part nr c =
       subst (PartCosts g part t shift) (sym (priced_by nr (length g.nonterminals + j + 1) None part (helper_body j part nr c) c.operator refl))
       (known part (length g.nonterminals + j + 1) c.operator c.below)
-
-  pub part_within : (j : ℕ) (part : Pattern) → slice_get (places g.rules) j ≡ Some part → length g.nonterminals + j < normal.nonterminals
-  part_within j part there = let h = slice_get_within (places g.rules) j part there in let w = over.width in omega arith

@@ -1,6 +1,5 @@
 pub mod BestParts
 pub mod Deciders
-pub mod EntryGoals
 pub mod EntryRules
 pub mod FollowsBack
 pub mod GoalKids
@@ -8,7 +7,6 @@ pub mod ItemLaws
 pub mod KeyRules
 pub mod KidSetLaws
 pub mod Meanings
-pub mod NodeSets
 pub mod OneItems
 pub mod OneSet
 pub mod Rows

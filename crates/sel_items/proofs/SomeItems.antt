@@ -29,10 +29,9 @@ use Rattle.sel_items.specs.ItemsOf.{root_rule, SymbolMeans, PartMeans, IsItemsOf
 use Rattle.sel_items.proofs.Meanings.{kid_trees, PartCosts, KidsGoals}
 use Rattle.sel_items.proofs.GoalKids.{pattern_known}
 use Rattle.sel_items.proofs.KeyRules.{low_outcome}
-use Rattle.sel_items.proofs.Rows.{below_or_not, LeastBelow, least_more, least_all, reduced_least, reduced_none}
-use Rattle.sel_items.proofs.NodeSets.{item_at-map, best_part}
+use Rattle.sel_items.proofs.Rows.{item_at-map, below_or_not, LeastBelow, least_more, least_all, reduced_least, reduced_none}
 use Rattle.sel_items.proofs.OneItems.{there}
-use Rattle.sel_items.proofs.BestParts.{items_are_nodes, made}
+use Rattle.sel_items.proofs.BestParts.{best_part, items_are_nodes, made}
 
 -- The least cost is taken away from any row.
 with_entry : (o : Option Cost) (e : Option Item) → (r : Option Cost) × WithEntry o e r
