@@ -1,4 +1,5 @@
 pub mod BestParts
+pub mod ClosedRows
 pub mod Closings
 pub mod Deciders
 pub mod EntryRules

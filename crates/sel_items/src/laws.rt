@@ -1,5 +1,5 @@
 //! Laws of item sets. The functions do nothing: their contracts say them.
-ghost use Rattle.sel_items.specs.Laws.{ItemsFollow, ItemsOfFollow, FollowsIsOne, ItemsAreOne, ItemsExist, ItemsAreKidSets, EntriesHaveRules, FittingSetsHaveWords};
+ghost use Rattle.sel_items.specs.Laws.{ItemsFollow, ItemsOfFollow, FollowsIsOne, ItemsAreOne, ItemsExist, ItemsAreKidSets, EntriesHaveRules, FittingSetsHaveWords, ClosedAreAbsolute};
 
 /// What follows from the item sets of a node's kids is the item set of the node.
 pub fn items_follow()
@@ -36,4 +36,11 @@ pub fn items_are_kid_sets()
 pub fn entries_have_rules()
     ensures rules { EntriesHaveRules }
     ensures words { FittingSetsHaveWords }
+{}
+
+/// The least candidates without chain rules, closed under the chain rules, are the least candidates of
+/// all: so what `close_chains` gives is what an item set is made from, before its least cost is taken
+/// away.
+pub fn closed_are_absolute()
+    ensures { ClosedAreAbsolute }
 {}
