@@ -1,15 +1,12 @@
 -- A row that takes a chain rule's offer comes nearer to the least row, and its entries stay the ends of ways.
-use Rattle.std.proofs.Common.{◌≡◌, ℕ, zero, suc, ◌+◌, ◌*◌, ◌<◌, ◌≤◌, ◌^◌, ◌⊎◌, inl, inr, List, [], ◌∷◌, length, refl, ap, subst, sym, ◌∙◌, Option, Some, None, arith, ℤ, pos, negsuc, ◌+ℤ◌, ◌<ℤ◌, ◌≤ℤ◌, neg_ℤ, get_or, slice_get}
-use Rattle.std.specs.Prelude.{slice_set}
+use Rattle.std.proofs.Common.{◌≡◌, ℕ, suc, ◌+◌, ◌*◌, ◌<◌, ◌≤◌, ◌^◌, ◌⊎◌, inl, inr, List, [], ◌∷◌, length, refl, ap, subst, sym, ◌∙◌, Option, Some, None, arith, ℤ, pos, negsuc, ◌+ℤ◌, ◌<ℤ◌, neg_ℤ, get_or}
 use Rattle.std.proofs.lemmas.Int.{ints}
 use Rattle.std.proofs.lemmas.List.Sums.{sum_by-set}
 use Rattle.std.proofs.lemmas.Option.{slice_get-get_or}
 use Rattle.std.specs.Option.{option_flatten}
 use Rattle.sel_grammar.specs.declared.grammar.RuleCost.{RuleCost}
 use Rattle.sel_grammar.specs.Costs.{Cost, ◌⊕◌, IsCheaper, paid}
-use Rattle.sel_grammar.proofs.CostLaws.{right_cheaper, same_sums, cheaper_trans, cheaper_same, same_cheaper, cheaper_not_both, cheaper_not_same, cheaper_or_not, paid_more}
-use Rattle.sel_normal.specs.declared.normal.Body.{Body}
-use Rattle.sel_normal.specs.declared.normal.Body.TheVariants.{Chain, Operator}
+use Rattle.sel_grammar.proofs.CostLaws.{right_cheaper, same_sums, cheaper_trans, cheaper_same, same_cheaper, cheaper_not_same, cheaper_or_not, paid_more}
 use Rattle.sel_normal.specs.declared.normal.NormalRule.{NormalRule}
 use Rattle.sel_normal.specs.NormalForms.{NormalForm, normal_at}
 use Rattle.sel_items.specs.declared.items.Item.{Item}

@@ -1,5 +1,5 @@
 -- A list of different numbers below n has at most n of them.
-use Rattle.std.proofs.Common.{◌≡◌, ℕ, zero, suc, ◌+◌, ◌<◌, ◌≤◌, ◌⊎◌, inl, inr, List, [], ◌∷◌, length, refl, ap, subst, sym, ◌∙◌, arith}
+use Rattle.std.proofs.Common.{◌≡◌, ℕ, zero, suc, ◌+◌, ◌<◌, ◌≤◌, ◌⊎◌, inl, inr, List, [], ◌∷◌, length, subst, sym, arith}
 use Rattle.sel_items.specs.ChainPasses.{NotIn}
 
 abbrev pub Distinct : List ℕ → Type 0

@@ -1,12 +1,10 @@
 -- Closed under the chain rules, the least candidates that are operator rules alone give the least of all candidates.
-use Rattle.std.proofs.Common.{◌≡◌, ℕ, zero, suc, ◌+◌, ◌<◌, ◌≤◌, ◌⊎◌, inl, inr, Bool, true, false, List, [], ◌∷◌, length, refl, ap, subst, sym, ◌∙◌, Option, Some, None, slice_get, arith, add-one}
+use Rattle.std.proofs.Common.{◌≡◌, ℕ, zero, suc, ◌+◌, ◌<◌, ◌⊎◌, inl, inr, List, [], ◌∷◌, length, refl, ap, subst, sym, ◌∙◌, Option, Some, None, slice_get, arith, add-one}
 use Rattle.std.specs.Prelude.{replicate}
 use Rattle.std.proofs.lemmas.List.{length-replicate}
 use Rattle.std.proofs.lemmas.Option.{slice_get_within}
-use Rattle.sel_grammar.specs.declared.grammar.RuleCost.{RuleCost}
-use Rattle.sel_grammar.specs.Costs.{Cost, ◌⊕◌, IsCheaper, paid}
-use Rattle.sel_grammar.proofs.CostLaws.{right_cheaper, same_sums, cheaper_trans, cheaper_same, same_cheaper}
-use Rattle.sel_normal.specs.declared.normal.Body.TheVariants.{Chain, Operator}
+use Rattle.sel_grammar.specs.Costs.{Cost, ◌⊕◌, paid}
+use Rattle.sel_grammar.proofs.CostLaws.{right_cheaper, same_sums}
 use Rattle.sel_normal.specs.declared.normal.NormalRule.{NormalRule}
 use Rattle.sel_normal.specs.NormalForms.{NormalForm, normal_at}
 use Rattle.sel_items.specs.declared.items.Item.{Item}
@@ -15,7 +13,7 @@ use Rattle.sel_items.specs.Offers.{offer_for, operator_offer, Stands, IsBettered
 use Rattle.sel_items.specs.Evaluating.{IsStartTo, IsStart}
 use Rattle.sel_items.specs.Follows.{NodeKey, operator_cost, IsCandidate, first_rule, IsEntryOf, IsAbsolute}
 use Rattle.sel_items.specs.Entries.{ItemRow, item_at, NoLater}
-use Rattle.sel_items.specs.CostBounds.{IsBelow, AreBelow}
+use Rattle.sel_items.specs.CostBounds.{IsBelow}
 use Rattle.sel_normal.proofs.Steps.{some_same, some_none}
 use Rattle.sel_items.proofs.Pigeons.{same_or_other}
 use Rattle.sel_items.proofs.Closings.{no_later_trans, new_same, new_other, new_long, sooner}

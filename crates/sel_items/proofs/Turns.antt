@@ -1,10 +1,10 @@
 -- One turn of the loop that offers each chain rule to a row.
-use Rattle.std.proofs.Common.{◌≡◌, ℕ, zero, suc, ◌+◌, ◌<◌, ◌^◌, ◌⊎◌, inl, inr, Bool, true, false, List, length, refl, ap, sym, ◌∙◌, subst, arith, Option, Some, None, slice_get, add-one}
+use Rattle.std.proofs.Common.{◌≡◌, ℕ, zero, suc, ◌+◌, ◌<◌, ◌⊎◌, inl, inr, Bool, true, false, length, refl, ap, sym, ◌∙◌, subst, arith, Some, slice_get, add-one}
 use Rattle.sel_normal.specs.declared.normal.NormalRule.{NormalRule}
 use Rattle.sel_normal.specs.NormalForms.{NormalForm, normal_at}
 use Rattle.sel_items.specs.Entries.{ItemRow}
 use Rattle.sel_items.specs.CostBounds.{AreBelow}
-use Rattle.sel_items.specs.ChainPasses.{IsTurned, ChainStands, AllStand, IsKeptFrom, KeepsRow, HasStart, total_distance}
+use Rattle.sel_items.specs.ChainPasses.{IsTurned, ChainStands, AllStand, KeepsRow, HasStart, total_distance}
 use Rattle.sel_normal.proofs.Steps.{some_same, some_none}
 use Rattle.sel_items.proofs.Rows.{length-slice_set}
 use Rattle.sel_items.proofs.Closings.{IsKeptFrom-turned, AreBelow-kept}

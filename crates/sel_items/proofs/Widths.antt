@@ -1,8 +1,8 @@
 -- Costs below one bound are below a greater one.
-use Rattle.std.proofs.Common.{◌≡◌, ◌∙◌, Option, Some, None, sym, ap, subst, ◌≡◌, ℕ, ◌+◌, ◌<◌, ◌^◌, arith, ℤ, pos, ◌+ℤ◌, ◌<ℤ◌, neg_ℤ, refl}
+use Rattle.std.proofs.Common.{◌≡◌, Option, Some, None, sym, ap, subst, ◌≡◌, ℕ, ◌<◌, ◌^◌, arith, ℤ, pos, ◌+ℤ◌, ◌<ℤ◌, neg_ℤ, refl}
 use Rattle.std.proofs.lemmas.Int.{ints}
 use Rattle.sel_grammar.specs.declared.grammar.RuleCost.{RuleCost}
-use Rattle.sel_grammar.specs.Costs.{Cost, no_cost, ◌⊕◌, paid}
+use Rattle.sel_grammar.specs.Costs.{Cost, ◌⊕◌, paid}
 use Rattle.sel_items.specs.declared.items.Item.{Item}
 use Rattle.sel_items.specs.Entries.{ItemRow, item_at}
 use Rattle.sel_items.specs.Evaluating.{IsBelowIn}

@@ -1,5 +1,5 @@
 -- A pass that changes nothing shows that no chain rule betters the row.
-use Rattle.std.proofs.Common.{arith, ◌≡◌, sym, ◌∙◌, subst, ap, length}
+use Rattle.std.proofs.Common.{arith, ◌≡◌, sym, subst}
 use Rattle.sel_items.specs.CostBounds.{AreBelow}
 use Rattle.sel_items.specs.ChainClosing.{IsClosedFrom}
 use Rattle.sel_items.proofs.Closings.{IsClosedFrom-still, AreBelow-kept}

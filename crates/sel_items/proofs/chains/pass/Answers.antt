@@ -1,10 +1,8 @@
 -- Each turn keeps what the row is, and either leaves it or brings it nearer to the least row.
-use Rattle.std.proofs.Common.{arith, ◌≡◌, ◌<◌, ◌+◌, ◌^◌, length, slice_get, Some, add-one, List, ℕ, sym, ap, ◌∙◌, refl, subst}
+use Rattle.std.proofs.Common.{arith, ◌≡◌, ◌<◌, ◌+◌, length, slice_get, Some, add-one, ℕ, sym, ap, ◌∙◌, subst}
 use Rattle.std.proofs.lemmas.Option.{slice_get_within}
 use Rattle.sel_normal.specs.declared.normal.NormalRule.{NormalRule}
 use Rattle.sel_normal.specs.NormalForms.{NormalForm, normal_at}
-use Rattle.sel_items.specs.Entries.{ItemRow}
-use Rattle.sel_items.specs.CostBounds.{AreBelow}
 use Rattle.sel_items.specs.ChainPasses.{ChainStands, KeepsRow, total_distance}
 use Rattle.sel_items.proofs.Turns.{stands_more, stands_all, falls_more, keeps_more, long_more, below_now}
 use Rattle.sel_items.proofs.chains.pass.Goals as goal
@@ -60,8 +58,8 @@ pub returns-clause-stands : goal.returns-clause-stands
 returns-clause-stands g c = λ e.
     stands_all c.args.normal.now c.args.row.now c.loop-k.k
     (λ j rule at.
-        let within = slice_get_within c.args.normal.now.rules j rule at in
-        let all = c.loop-k-test.false in
-        let count = c.rules-k-end.ensures.is in
-        omega arith)
+    let within = slice_get_within c.args.normal.now.rules j rule at in
+    let all = c.loop-k-test.false in
+    let count = c.rules-k-end.ensures.is in
+    omega arith)
     (c.loop-k.invariant.stands e)

@@ -1,5 +1,5 @@
 -- The chain rule's offer is some entry's cost and a little more.
-use Rattle.std.proofs.Common.{◌≡◌, ◌<◌, ◌^◌, ap, sym, ◌∙◌, subst, rules}
+use Rattle.std.proofs.Common.{◌<◌, ◌^◌, ap, sym, ◌∙◌, subst, rules}
 use Rattle.sel_items.specs.Entries.{item_at}
 use Rattle.sel_items.specs.Evaluating.{IsBelowIn}
 use Rattle.sel_items.specs.Follows.{item_cost}

@@ -1,8 +1,8 @@
 -- The operator rules' least candidates, closed, and less the least cost.
-use Rattle.std.proofs.Common.{None, ◌≡◌, sym, ◌∙◌, subst, ap}
+use Rattle.std.proofs.Common.{None, sym, ◌∙◌, subst, ap}
 use Rattle.std.specs.Prelude.{replicate}
 use Rattle.std.specs.Option.{option_copied}
-use Rattle.sel_items.specs.Follows.{key_of, IsAbsolute}
+use Rattle.sel_items.specs.Follows.{key_of}
 use Rattle.sel_items.specs.KidSets.{kid_sets}
 use Rattle.sel_items.specs.Evaluating.{IsStartTo}
 use Rattle.sel_items.proofs.Starts.{empty_start, IsAbsolute-closed}

@@ -1,5 +1,5 @@
 -- Each turn offers one operator rule.
-use Rattle.std.proofs.Common.{arith, ◌≡◌, ◌<◌, ◌+◌, ◌^◌, length, slice_get, Some, List, ℕ, Bool, true, false, sym, ap, ◌∙◌, refl, subst, add-one}
+use Rattle.std.proofs.Common.{arith, ◌≡◌, ◌<◌, ◌+◌, length, slice_get, Some, ℕ, Bool, true, false, sym, ◌∙◌, refl, subst, add-one}
 use Rattle.std.specs.Option.{option_copied}
 use Rattle.sel_normal.specs.declared.normal.NormalRule.{NormalRule}
 use Rattle.sel_normal.specs.NormalForms.{NormalForm, normal_at}
@@ -34,7 +34,10 @@ loop-k-preserved g c =
     let at : slice_get normal.rules c.loop-k.k ≡ Some rule = at_place normal c.loop-k.k rule c.rule-rule.ensures.is in
     let inside : rule.left < length c.loop-k.row = let w = (c.rule-rule.ensures.within).left in let l = c.loop-k.invariant.start.long in omega arith in
     let is = c.rule_offer-offer.ensures.offer in
-    record { start = turned normal key c.loop-k.k rule c.loop-k.row c.improve-taken.new.row at c.loop-k.invariant.start inside c.improve-taken.result c.improve-taken.ensures.stays
-    (λ e. subst (λ o. Stands (item_at c.loop-k.row rule.left) o) is (c.improve-taken.ensures.stands e))
-    (λ e. subst (λ o. IsBettered rule.left o c.loop-k.row c.improve-taken.new.row) is (c.improve-taken.ensures.bettered e))
-    (λ item h. c.rule_offer-offer.ensures.low item (is ∙ h)); steps = (let a = c.loop-k.invariant.steps in let t = c.tick.ensures in omega arith) }
+    record {
+      start = turned normal key c.loop-k.k rule c.loop-k.row c.improve-taken.new.row at c.loop-k.invariant.start inside c.improve-taken.result c.improve-taken.ensures.stays
+          (λ e. subst (λ o. Stands (item_at c.loop-k.row rule.left) o) is (c.improve-taken.ensures.stands e))
+          (λ e. subst (λ o. IsBettered rule.left o c.loop-k.row c.improve-taken.new.row) is (c.improve-taken.ensures.bettered e))
+          (λ item h. c.rule_offer-offer.ensures.low item (is ∙ h));
+      steps = (let a = c.loop-k.invariant.steps in let t = c.tick.ensures in omega arith);
+    }

@@ -1,8 +1,8 @@
 -- Each turn looks at one entry.
-use Rattle.std.proofs.Common.{◌≡◌, ◌<◌, ◌≤◌, ◌+◌, ℕ, ◌⊎◌, inl, inr, Bool, true, false, length, Some, None, ap, sym, ◌∙◌, subst, arith, rules, IsTrue, refl}
+use Rattle.std.proofs.Common.{◌≡◌, ◌<◌, ◌≤◌, ◌+◌, ℕ, ◌⊎◌, inl, inr, length, Some, ap, sym, ◌∙◌, subst, arith, IsTrue, refl}
 use Rattle.sel_items.specs.declared.items.Item.{Item}
 use Rattle.sel_items.specs.Entries.{ItemRow, item_at}
-use Rattle.sel_items.specs.Words.{FitsWord, FitsWords}
+use Rattle.sel_items.specs.Words.{FitsWord}
 use Rattle.sel_items.proofs.Rows.{below_or_at, below_or_not, no_entry}
 use Rattle.sel_normal.proofs.Steps.{some_none}
 use Rattle.sel_items.proofs.fitting.fits.Goals as goal

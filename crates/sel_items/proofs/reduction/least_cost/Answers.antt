@@ -1,6 +1,5 @@
 -- Each turn looks at one entry.
-use Rattle.std.proofs.Common.{◌≡◌, ap, sym, ◌∙◌, refl, subst, arith, length}
-use Rattle.sel_items.specs.LeastCosts.{WithEntry}
+use Rattle.std.proofs.Common.{◌≡◌, sym, subst, arith, length}
 use Rattle.sel_items.proofs.Rows.{LeastBelow, least_more, least_all}
 use Rattle.sel_items.proofs.reduction.least_cost.Goals as goal
 

@@ -1,8 +1,8 @@
 -- The least cost is some entry's, so it is as small as they are.
-use Rattle.std.proofs.Common.{◌≡◌, ap, sym, ◌∙◌, refl, subst, Some}
+use Rattle.std.proofs.Common.{subst, Some}
 use Rattle.sel_items.specs.LeastCosts.{LeastCost}
 use Rattle.sel_items.specs.CostBounds.{IsBelow}
-use Rattle.sel_items.proofs.Rows.{reduced_least, reduced_none}
+use Rattle.sel_items.proofs.Rows.{reduced_least}
 use Rattle.sel_items.proofs.reduction.relative.Goals as goal
 
 pub take_away-requires-clause-least : goal.take_away-requires-clause-least

@@ -1,5 +1,5 @@
 -- Each turn takes the cost away from one entry.
-use Rattle.std.proofs.Common.{◌≡◌, ◌+◌, ◌<◌, ◌≤◌, ℕ, length, Some, None, ap, sym, ◌∙◌, refl, subst, arith}
+use Rattle.std.proofs.Common.{◌≡◌, ◌+◌, ◌<◌, length, Some, ap, sym, ◌∙◌, subst, arith}
 use Rattle.sel_items.specs.Entries.{item_at, raised}
 use Rattle.sel_items.proofs.Rows.{IsReducedTo, reduced_more, reduced_all}
 use Rattle.sel_items.proofs.reduction.take_away.Goals as goal
