@@ -1,5 +1,5 @@
 -- The call of `label` for the first node without a label, by what the code looked up.
-use Rattle.std.proofs.Common.{◌≡◌, ℕ, ◌+◌, ◌<◌, ◌≤◌, ◌==◌, if◌then◌else◌, Bool, Option, Some, None, List, ◌∷◌, [], ◌++◌, length, refl, ap, sym, ◌∙◌, subst, slice_get, get_or, arith}
+use Rattle.std.proofs.Common.{◌≡◌, ℕ, ◌<◌, ◌≤◌, ◌==◌, if◌then◌else◌, Bool, Option, Some, None, List, ◌∷◌, [], ◌++◌, length, refl, ap, sym, ◌∙◌, subst, slice_get, get_or, arith}
 use Rattle.std.proofs.lemmas.Option.{slice_get_read}
 use Rattle.sel_base.specs.declared.range.Range.{Range}
 use Rattle.sel_grammar.specs.declared.grammar.Grammar.{Grammar}

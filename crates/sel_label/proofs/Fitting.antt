@@ -1,5 +1,5 @@
 -- What a node is labelled by, where the nodes before it have labels: its key, and what `label` asks of its caller.
-use Rattle.std.proofs.Common.{◌≡◌, ℕ, ◌+◌, ◌⊎◌, inl, inr, ◌<◌, ◌≤◌, ◌<ℤ◌, ◌≤ℤ◌, ℤ, pos, ◌==◌, if◌then◌else◌, Bool, false, Option, Some, None, List, [], ◌∷◌, length, refl, ap, sym, ◌∙◌, subst, slice_get, arith}
+use Rattle.std.proofs.Common.{◌≡◌, ℕ, ◌⊎◌, inl, inr, ◌<◌, ◌≤◌, ◌<ℤ◌, ◌≤ℤ◌, ℤ, pos, ◌==◌, if◌then◌else◌, Bool, false, Option, Some, None, List, [], ◌∷◌, length, refl, ap, sym, ◌∙◌, subst, slice_get, arith}
 use Rattle.std.specs.Prelude.{neg_ℤ, ◌^◌}
 use Rattle.std.proofs.lemmas.Int.{ints}
 use Rattle.sel_grammar.specs.declared.grammar.Attribute.{Attribute}
@@ -11,10 +11,9 @@ use Rattle.sel_forest.specs.Limits.{most_nodes}
 use Rattle.sel_forest.specs.Places.{IsRootAt}
 use Rattle.sel_forest.specs.Valid.{IsOver, IsAttribute}
 use Rattle.sel_forest.proofs.Matching.{some_same}
-use Rattle.sel_range.specs.Classes.{class_of, Occurs}
+use Rattle.sel_range.specs.Classes.{class_of}
 use Rattle.sel_range.specs.Limits.{IsAttributeValue, least_number, greatest_number}
 use Rattle.sel_normal.specs.NormalForms.{NormalForm}
-use Rattle.sel_normal.specs.Forms.{tests}
 use Rattle.sel_items.specs.declared.items.Items.{Items}
 use Rattle.sel_items.specs.declared.label.Label.{Label}
 use Rattle.sel_items.specs.Follows.{NodeKey, key_of}
@@ -105,9 +104,9 @@ module _ (g : Grammar) (normal : NormalForm) (nodes : List Node) (means : Label 
     none_fits i op a node over is kids at =
         subst (Fits i (Node0 op a))
         (same_asked made (asked_of node) (sym is)
-            (ap (λ x. class_of normal.tests (attribute_number x)) (sym at) ∙ ap (λ (k : ℕ). if k == 0 then class_of normal.tests (attribute_number node.attribute) else 0) (sym kids))
-            (ap (λ (k : ℕ). if k == 0 then None else slice_get labels node.left) (sym kids))
-            (ap (λ (k : ℕ). if k == 2 then slice_get labels node.right else None) (sym kids)))
+        (ap (λ x. class_of normal.tests (attribute_number x)) (sym at) ∙ ap (λ (k : ℕ). if k == 0 then class_of normal.tests (attribute_number node.attribute) else 0) (sym kids))
+        (ap (λ (k : ℕ). if k == 0 then None else slice_get labels node.left) (sym kids))
+        (ap (λ (k : ℕ). if k == 2 then slice_get labels node.right else None) (sym kids)))
         (record {
           kids = [];
           are = tt;
@@ -131,9 +130,9 @@ module _ (g : Grammar) (normal : NormalForm) (nodes : List Node) (means : Label 
         go (l, at, says) =
             subst (Fits i (Node1 op a t))
             (same_asked (record { operator = op; class = 0; first = Some l; second = None }) (asked_of node) (sym is)
-                (ap (λ (k : ℕ). if k == 0 then class_of normal.tests (attribute_number node.attribute) else 0) (sym kids))
-                (sym at ∙ ap (λ (k : ℕ). if k == 0 then None else slice_get labels node.left) (sym kids))
-                (ap (λ (k : ℕ). if k == 2 then slice_get labels node.right else None) (sym kids)))
+            (ap (λ (k : ℕ). if k == 0 then class_of normal.tests (attribute_number node.attribute) else 0) (sym kids))
+            (sym at ∙ ap (λ (k : ℕ). if k == 0 then None else slice_get labels node.left) (sym kids))
+            (ap (λ (k : ℕ). if k == 2 then slice_get labels node.right else None) (sym kids)))
             (record {
               kids = says.items ∷ [];
               are = says.meant;
@@ -155,9 +154,9 @@ module _ (g : Grammar) (normal : NormalForm) (nodes : List Node) (means : Label 
         go (l, at, says) (k, at', says') =
             subst (Fits i (Node2 op a t u))
             (same_asked (record { operator = op; class = 0; first = Some l; second = Some k }) (asked_of node) (sym is)
-                (ap (λ (k : ℕ). if k == 0 then class_of normal.tests (attribute_number node.attribute) else 0) (sym kids))
-                (sym at ∙ ap (λ (k : ℕ). if k == 0 then None else slice_get labels node.left) (sym kids))
-                (sym at' ∙ ap (λ (k : ℕ). if k == 2 then slice_get labels node.right else None) (sym kids)))
+            (ap (λ (k : ℕ). if k == 0 then class_of normal.tests (attribute_number node.attribute) else 0) (sym kids))
+            (sym at ∙ ap (λ (k : ℕ). if k == 0 then None else slice_get labels node.left) (sym kids))
+            (sym at' ∙ ap (λ (k : ℕ). if k == 2 then slice_get labels node.right else None) (sym kids)))
             (record {
               kids = says.items ∷ says'.items ∷ [];
               are = (says.meant, says'.meant);

@@ -1,5 +1,5 @@
 -- What labels say stays, while an automaton learns more and more nodes get labels.
-use Rattle.std.proofs.Common.{◌≡◌, ℕ, ◌+◌, ◌<◌, ◌≤◌, ◌⊎◌, inl, inr, Bool, true, false, Some, List, [], ◌∷◌, ◌++◌, length, refl, ap, sym, ◌∙◌, subst, slice_get, arith}
+use Rattle.std.proofs.Common.{◌≡◌, ℕ, ◌+◌, ◌<◌, ◌≤◌, ◌⊎◌, inl, inr, Bool, true, false, List, [], ◌∷◌, ◌++◌, length, refl, ap, sym, ◌∙◌, subst, arith}
 use Rattle.std.proofs.lemmas.List.{length_push}
 use Rattle.sel_grammar.specs.declared.grammar.Grammar.{Grammar}
 use Rattle.sel_grammar.specs.PlainTrees.{PlainTree, Node0, Node1, Node2}
@@ -98,12 +98,11 @@ module _ (g : Grammar) (nodes : List Node) where
         go (inl b) =
             let old = h i u b root in
             (old.0, slice_get-left labels (l ∷ []) i b ∙ old.1, node_more labels (l ∷ []) i u old.0 root (omega arith) old.2)
-        go (inr q) =
-            (
-              l,
-              slice_get-right labels (l ∷ []) 0 i (omega arith),
-              subst (λ x. IsNodeLabelled g nodes means' held' known' used_up' row_full' (labels ++ l ∷ []) x u l) (sym q) (new u (subst (λ x. IsRootAt nodes x u) q root)),
-            )
+        go (inr q) = (
+          l,
+          slice_get-right labels (l ∷ []) 0 i (omega arith),
+          subst (λ x. IsNodeLabelled g nodes means' held' known' used_up' row_full' (labels ++ l ∷ []) x u l) (sym q) (new u (subst (λ x. IsRootAt nodes x u) q root)),
+        )
 
   key_before : (H K : Items → Type 0) (labels ys : List Label) (n m : ℕ) (k : NodeKey) → StaysTrue H K → n ≤ m → n ≤ length labels + 1 → IsKeyBefore g H nodes labels n k → IsKeyBefore g K nodes (labels ++ ys) m k
   key_before H K labels ys n m k f le few (i, lt, (u, root, is, held, numbered)) =

@@ -1,11 +1,11 @@
 -- A node has one key, and labels of kids mean one list of item sets.
-use Rattle.std.proofs.Common.{◌≡◌, ℕ, Option, Some, None, List, [], ◌∷◌, refl, ap, sym, ◌∙◌}
+use Rattle.std.proofs.Common.{◌≡◌, Some, None, List, [], ◌∷◌, refl, ap, sym, ◌∙◌}
 use Rattle.sel_grammar.specs.declared.grammar.Grammar.{Grammar}
 use Rattle.sel_grammar.specs.PlainTrees.{PlainTree, Node0, Node1, Node2}
 use Rattle.sel_items.specs.declared.items.Items.{Items}
 use Rattle.sel_items.specs.declared.label.Label.{Label}
 use Rattle.sel_items.specs.Follows.{NodeKey}
-use Rattle.sel_items.specs.ItemsOf.{IsItemsOf, IsKeyOf}
+use Rattle.sel_items.specs.ItemsOf.{IsKeyOf}
 use Rattle.sel_items.specs.Labels.{KidsAre}
 use Rattle.sel_items.proofs.ItemLaws.{items_are_one}
 

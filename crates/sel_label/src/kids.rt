@@ -22,10 +22,10 @@ fn number_of(attribute: &Attribute) -> Option<i64>
 pub fn class_of_node(classes: &Classes, node: &Node) -> u16
     ensures { result ≡ (if node.now.kids == 0 then class_of classes.now (attribute_number node.now.attribute) else 0) }
 {
-    if node.kids == 0 {
-        classes.class_of(number_of(&node.attribute))
-    } else {
+    if node.kids != 0 {
         0
+    } else {
+        classes.class_of(number_of(&node.attribute))
     }
 }
 

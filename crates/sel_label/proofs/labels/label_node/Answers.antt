@@ -1,5 +1,5 @@
 -- The call is that of the first node without a label.
-use Rattle.std.proofs.Common.{◌≡◌, ap, sym, ◌∙◌, subst}
+use Rattle.std.proofs.Common.{ap, sym, ◌∙◌, subst}
 use Rattle.sel_normal.specs.NormalForms.{NormalForm}
 use Rattle.sel_items.specs.Laws.{IsAcceptedForm}
 use Rattle.sel_forest.proofs.PlaceLemmas.{if_ok_map}
@@ -14,9 +14,9 @@ label-requires g c =
     let s = c.args.automaton.now in
     let (h, accepted, valid, labelled) = c.requires.labels in
     let own = own_call h (A.normal s) c.args.tree.now (A.means s) (A.held s) (A.known s) (A.used_up s) (A.row_full s) c.args.labels.now
-        (subst (IsAcceptedForm h) (sym c.requires.normal) accepted) (g.met.A.Automaton.one s) valid labelled c.requires.more
-        c.as_slice-nodes.result.now c.index-nodes-at.result c.classes.result.now c.class_of_node-class.result c.first_label.result c.second_label.result
-        c.as_slice-nodes.ensures c.index-nodes-at.is (c.classes.ensures ∙ ap (λ (n : NormalForm). n.tests) (sym c.requires.normal)) c.class_of_node-class.ensures c.first_label.ensures c.second_label.ensures in
+    (subst (IsAcceptedForm h) (sym c.requires.normal) accepted) (g.met.A.Automaton.one s) valid labelled c.requires.more
+    c.as_slice-nodes.result.now c.index-nodes-at.result c.classes.result.now c.class_of_node-class.result c.first_label.result c.second_label.result
+    c.as_slice-nodes.ensures c.index-nodes-at.is (c.classes.ensures ∙ ap (λ (n : NormalForm). n.tests) (sym c.requires.normal)) c.class_of_node-class.ensures c.first_label.ensures c.second_label.ensures in
     record {
       kids = ((own.fits).kids, (own.fits).are, (own.fits).sets);
       class = (own.fits).over;

@@ -1,8 +1,6 @@
 -- One node after the other gets its label, and keeps it.
-use Rattle.std.proofs.Common.{arith, ◌≡◌, ◌+◌, ◌≤◌, ◌++◌, ◌∷◌, [], length, ap, sym, ◌∙◌, subst, List}
+use Rattle.std.proofs.Common.{arith, ◌≡◌, ◌+◌, ◌++◌, ◌∷◌, [], length, ap, sym, ◌∙◌, subst}
 use Rattle.std.proofs.lemmas.List.{length_push}
-use Rattle.sel_forest.specs.declared.forest.Node.{Node}
-use Rattle.sel_items.specs.declared.label.Label.{Label}
 use Rattle.sel_items.specs.declared.label.Label.TheVariants.{Numbered}
 use Rattle.sel_label.specs.Labelling.{IsOfNumber, AreLabelled, AddsNumberedKeys}
 use Rattle.sel_label.specs.Fronts.{AreLabelledTo}
@@ -41,7 +39,7 @@ returns-in_err-label-clause-asked g c = λ h accepted valid.
     let e = c.label_node.ensures in
     held_keys h nodes (IsOfNumber (A.means t) (A.held t)) (A.held t) (ls ++ []) (length ls + 1) (A.asked c.args.automaton.now) (A.asked t) (λ x y. y.0)
     (asked_step h nodes (IsOfNumber (A.means s) (A.held s)) (IsOfNumber (A.means t) (A.held t)) ls c.as_slice.result.now [] (A.asked c.args.automaton.now) (A.asked s) (A.asked t) (number_more (A.means s) (A.means t) (A.held s) (A.held t) e.keeps e.keeps_held) c.as_slice.ensures.value (i.asked h accepted valid)
-        (e.asked h accepted valid (subst (λ x. AreLabelledTo h nodes (A.means s) (A.held s) (A.known s) (A.used_up s) (A.row_full s) x) (sym c.as_slice.ensures.value) (i.labelled h accepted valid))))
+    (e.asked h accepted valid (subst (λ x. AreLabelledTo h nodes (A.means s) (A.held s) (A.known s) (A.used_up s) (A.row_full s) x) (sym c.as_slice.ensures.value) (i.labelled h accepted valid))))
 
 pub returns-in_err-label-clause-asked_of_numbers : goal.returns-in_err-label-clause-asked_of_numbers
 returns-in_err-label-clause-asked_of_numbers g c = λ h accepted valid.
@@ -54,7 +52,7 @@ returns-in_err-label-clause-asked_of_numbers g c = λ h accepted valid.
     let e = c.label_node.ensures in
     held_keys h nodes (IsOfNumber (A.means t) (A.held t)) (IsOfNumber (A.means t) (A.held t)) (ls ++ []) (length ls + 1) (A.asked c.args.automaton.now) (A.asked t) (λ x y. y)
     (asked_step h nodes (IsOfNumber (A.means s) (A.held s)) (IsOfNumber (A.means t) (A.held t)) ls c.as_slice.result.now [] (A.asked c.args.automaton.now) (A.asked s) (A.asked t) (number_more (A.means s) (A.means t) (A.held s) (A.held t) e.keeps e.keeps_held) c.as_slice.ensures.value (i.asked h accepted valid)
-        (e.asked h accepted valid (subst (λ x. AreLabelledTo h nodes (A.means s) (A.held s) (A.known s) (A.used_up s) (A.row_full s) x) (sym c.as_slice.ensures.value) (i.labelled h accepted valid))))
+    (e.asked h accepted valid (subst (λ x. AreLabelledTo h nodes (A.means s) (A.held s) (A.known s) (A.used_up s) (A.row_full s) x) (sym c.as_slice.ensures.value) (i.labelled h accepted valid))))
 
 pub returns-in_err-label-clause-known : goal.returns-in_err-label-clause-known
 returns-in_err-label-clause-known g c = λ h accepted valid.
@@ -66,7 +64,7 @@ returns-in_err-label-clause-known g c = λ h accepted valid.
     let t = c.label_node.new.automaton in
     let e = c.label_node.ensures in
     known_more h nodes (A.known c.args.automaton.now) (A.known s) (A.known t) (i.known h accepted valid)
-        (e.known h accepted valid (subst (λ x. AreLabelledTo h nodes (A.means s) (A.held s) (A.known s) (A.used_up s) (A.row_full s) x) (sym c.as_slice.ensures.value) (i.labelled h accepted valid)))
+    (e.known h accepted valid (subst (λ x. AreLabelledTo h nodes (A.means s) (A.held s) (A.known s) (A.used_up s) (A.row_full s) x) (sym c.as_slice.ensures.value) (i.labelled h accepted valid)))
 
 pub returns-in_err-push-clause-asked : goal.returns-in_err-push-clause-asked
 returns-in_err-push-clause-asked g c = λ h accepted valid.
@@ -79,7 +77,7 @@ returns-in_err-push-clause-asked g c = λ h accepted valid.
     let e = c.label_node.ensures in
     held_keys h nodes (IsOfNumber (A.means t) (A.held t)) (A.held t) (ls ++ []) (length ls + 1) (A.asked c.args.automaton.now) (A.asked t) (λ x y. y.0)
     (asked_step h nodes (IsOfNumber (A.means s) (A.held s)) (IsOfNumber (A.means t) (A.held t)) ls c.as_slice.result.now [] (A.asked c.args.automaton.now) (A.asked s) (A.asked t) (number_more (A.means s) (A.means t) (A.held s) (A.held t) e.keeps e.keeps_held) c.as_slice.ensures.value (i.asked h accepted valid)
-        (e.asked h accepted valid (subst (λ x. AreLabelledTo h nodes (A.means s) (A.held s) (A.known s) (A.used_up s) (A.row_full s) x) (sym c.as_slice.ensures.value) (i.labelled h accepted valid))))
+    (e.asked h accepted valid (subst (λ x. AreLabelledTo h nodes (A.means s) (A.held s) (A.known s) (A.used_up s) (A.row_full s) x) (sym c.as_slice.ensures.value) (i.labelled h accepted valid))))
 
 pub returns-in_err-push-clause-asked_of_numbers : goal.returns-in_err-push-clause-asked_of_numbers
 returns-in_err-push-clause-asked_of_numbers g c = λ h accepted valid.
@@ -92,7 +90,7 @@ returns-in_err-push-clause-asked_of_numbers g c = λ h accepted valid.
     let e = c.label_node.ensures in
     held_keys h nodes (IsOfNumber (A.means t) (A.held t)) (IsOfNumber (A.means t) (A.held t)) (ls ++ []) (length ls + 1) (A.asked c.args.automaton.now) (A.asked t) (λ x y. y)
     (asked_step h nodes (IsOfNumber (A.means s) (A.held s)) (IsOfNumber (A.means t) (A.held t)) ls c.as_slice.result.now [] (A.asked c.args.automaton.now) (A.asked s) (A.asked t) (number_more (A.means s) (A.means t) (A.held s) (A.held t) e.keeps e.keeps_held) c.as_slice.ensures.value (i.asked h accepted valid)
-        (e.asked h accepted valid (subst (λ x. AreLabelledTo h nodes (A.means s) (A.held s) (A.known s) (A.used_up s) (A.row_full s) x) (sym c.as_slice.ensures.value) (i.labelled h accepted valid))))
+    (e.asked h accepted valid (subst (λ x. AreLabelledTo h nodes (A.means s) (A.held s) (A.known s) (A.used_up s) (A.row_full s) x) (sym c.as_slice.ensures.value) (i.labelled h accepted valid))))
 
 pub returns-in_err-push-clause-known : goal.returns-in_err-push-clause-known
 returns-in_err-push-clause-known g c = λ h accepted valid.
@@ -104,7 +102,7 @@ returns-in_err-push-clause-known g c = λ h accepted valid.
     let t = c.label_node.new.automaton in
     let e = c.label_node.ensures in
     known_more h nodes (A.known c.args.automaton.now) (A.known s) (A.known t) (i.known h accepted valid)
-        (e.known h accepted valid (subst (λ x. AreLabelledTo h nodes (A.means s) (A.held s) (A.known s) (A.used_up s) (A.row_full s) x) (sym c.as_slice.ensures.value) (i.labelled h accepted valid)))
+    (e.known h accepted valid (subst (λ x. AreLabelledTo h nodes (A.means s) (A.held s) (A.known s) (A.used_up s) (A.row_full s) x) (sym c.as_slice.ensures.value) (i.labelled h accepted valid)))
 
 pub loop-at-preserved : goal.loop-at-preserved
 loop-at-preserved g c =
@@ -127,7 +125,7 @@ loop-at-preserved g c =
           asked_pushed h nodes (IsOfNumber (A.means s) (A.held s)) (IsOfNumber (A.means t) (A.held t)) ls c.as_slice.result.now c.push.new.self.items l (A.asked c.args.automaton.now) (A.asked s) (A.asked t) (number_more (A.means s) (A.means t) (A.held s) (A.held t) e.keeps e.keeps_held) c.as_slice.ensures.value pushed
           (i.asked h accepted valid) (e.asked h accepted valid (subst (λ x. AreLabelledTo h nodes (A.means s) (A.held s) (A.known s) (A.used_up s) (A.row_full s) x) (sym c.as_slice.ensures.value) (i.labelled h accepted valid)));
       known = λ h accepted valid. known_more h nodes (A.known c.args.automaton.now) (A.known s) (A.known t) (i.known h accepted valid)
-        (e.known h accepted valid (subst (λ x. AreLabelledTo h nodes (A.means s) (A.held s) (A.known s) (A.used_up s) (A.row_full s) x) (sym c.as_slice.ensures.value) (i.labelled h accepted valid)));
+          (e.known h accepted valid (subst (λ x. AreLabelledTo h nodes (A.means s) (A.held s) (A.known s) (A.used_up s) (A.row_full s) x) (sym c.as_slice.ensures.value) (i.labelled h accepted valid)));
       plain_labels = (let x = i.plain_labels in let y = e.plain_labels in omega arith);
       keeps_numbered = λ n x m. e.keeps (Numbered n) x (i.keeps_numbered n x m);
       keeps_asked = λ k x. e.keeps_asked k (i.keeps_asked k x);
