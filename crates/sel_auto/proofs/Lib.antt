@@ -1,2 +1,5 @@
 pub mod Finding
+pub mod Growth
 pub mod KeyEquality
+pub mod KidMeanings
+pub mod Lawful

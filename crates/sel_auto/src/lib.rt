@@ -2,6 +2,9 @@
 #![tactic(auto)]
 
 mod key;
+mod labelling;
+mod private;
 mod states;
 mod transitions;
 
+pub use private::PrivateAutomaton;
