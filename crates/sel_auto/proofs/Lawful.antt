@@ -17,7 +17,7 @@ kid_state-grown states more (Some n) h = get_front states more n (h n refl)
 pub node_key-grown : (states more : List Items) (key : StateKey) → IsStateNumber states key.first → IsStateNumber states key.second → node_key (states ++ more) key ≡ node_key states key
 node_key-grown states more key h k = λ i. key_of key.operator key.class (kid_sets (kid_state-grown states more key.first h i) (kid_state-grown states more key.second k i))
 
-IsStateNumber-grown : (states more : List Items) (o : Option ℕ) → IsStateNumber states o → IsStateNumber (states ++ more) o
+pub IsStateNumber-grown : (states more : List Items) (o : Option ℕ) → IsStateNumber states o → IsStateNumber (states ++ more) o
 IsStateNumber-grown states more o h n e = let l = h n e in let s : length (states ++ more) ≡ length states + length more = length-append states more in omega arith
 
 pub IsTransition-grown : (normal : NormalForm) (states more : List Items) (key : StateKey) (n : ℕ) → IsTransition normal states key n → IsTransition normal (states ++ more) key n

@@ -1,5 +1,9 @@
+pub mod Cases
 pub mod Finding
 pub mod Growth
 pub mod KeyEquality
+pub mod KeyFacts
 pub mod KidMeanings
 pub mod Lawful
+pub mod Numbering
+pub mod Refusals

@@ -102,9 +102,13 @@ with_plain t i = record t { plain = t.plain ++ i ∷ [] }
 abbrev pub with_state : Tables → Items → Tables
 with_state t i = record t { states = t.states ++ i ∷ [] }
 
--- with the key's number, where there is room for one key more, and else with the mark
+-- the kept keys, and the key with its number behind them where there is room
+abbrev pub keys_with : Tables → StateKey → ℕ → List (StateKey × ℕ)
+keys_with t key n = if nat_lt (length t.keys) t.most_keys then t.keys ++ (key, n) ∷ [] else t.keys
+
+-- with the key's number where there is room for it, and else with the mark
 abbrev pub with_key : Tables → StateKey → ℕ → Tables
-with_key t key n = if nat_lt (length t.keys) t.most_keys then record t { keys = t.keys ++ (key, n) ∷ [] } else record t { row_full = true }
+with_key t key n = record t { keys = keys_with t key n; row_full = if nat_lt (length t.keys) t.most_keys then t.row_full else true }
 
 abbrev pub with_used_up : Tables → Tables
 with_used_up t = record t { used_up = true }

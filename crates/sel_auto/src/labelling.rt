@@ -55,18 +55,22 @@ impl<'n> PrivateAutomaton<'n> {
         ensures steps { steps.old ≤ steps.new }
     {
         let items = self.evaluate_counted(alloc, key.operator, key.class, kids, steps)?;
-        if let Some(number) = self.find(&items) {
-            self.keep(key, number)?;
-            return Ok(Label::Numbered(number));
+        match self.find(&items) {
+            Some(number) => {
+                self.keep(key, number)?;
+                Ok(Label::Numbered(number))
+            }
+            None => {
+                if self.has_number_left() {
+                    let number = self.add_state(items)?;
+                    self.keep(key, number)?;
+                    return Ok(Label::Numbered(number));
+                }
+                let label = self.add_plain(items)?;
+                self.mark_used_up();
+                Ok(label)
+            }
         }
-        if self.has_number_left() {
-            let number = self.add_state(items)?;
-            self.keep(key, number)?;
-            return Ok(Label::Numbered(number));
-        }
-        let label = self.add_plain(items)?;
-        self.mark_used_up();
-        Ok(label)
     }
 
     /// The label of a node: by its key, where a number is kept for it.

@@ -1,6 +1,7 @@
 //! An automaton over tables of one owner.
 #![tactic(auto)]
 
+mod automaton;
 mod key;
 mod labelling;
 mod private;
