@@ -7,3 +7,6 @@ pub mod KidMeanings
 pub mod Lawful
 pub mod Numbering
 pub mod Refusals
+pub mod Results
+pub mod Told
+pub mod Ways

@@ -1,7 +1,8 @@
 -- What a call that labels a node tells, shown for each of the five ways.
 use Rattle.std.proofs.Common.{◌≡◌, ℕ, ◌+◌, ◌<◌, ◌≤◌, ◌↔◌, ◌⊎◌, inl, inr, Bool, true, false, Option, Some, None, List, [], ◌∷◌, ◌++◌, length, slice_get, map, nat_lt, if◌then◌else◌, refl, sym, ap, subst, ◌∙◌, arith, ltb-true, ltb-false}
 use Rattle.std.proofs.lemmas.List.{append-nil}
-use Rattle.std.proofs.lemmas.Option.{slice_get_within}
+use Rattle.std.proofs.lemmas.Option.{slice_get_within, slice_get-map}
+use Rattle.std.specs.Option.{option_map}
 use Rattle.sel_items.specs.declared.items.Items.{Items}
 use Rattle.sel_items.specs.declared.label.Label.{Label}
 use Rattle.sel_items.specs.declared.label.Label.TheVariants.{Numbered, Plain}
@@ -39,9 +40,6 @@ pub record Grown (t s : Tables) : Type 0 where
   pub plain : s.plain ≡ t.plain ++ more_plain
 
 module _ (t : Tables) (operator class : ℕ) (a b : Option Label) where
-  pub HasMissed : ℕ → ℕ → StateKey → Items → Type 0
-  HasMissed before after key i = Missed t t before after operator class a b (Plain 0) key i
-
   -- a fact of the new tables and the label, from its five cases
   module _ (P : Tables → Label → Type 0)
       (plain_case : (i : Items) → numbered_key operator class a b ≡ None → FollowsKids t operator class a b i → P (with_plain (with_evaluation t) i) (Plain (length t.plain)))
@@ -61,14 +59,14 @@ module _ (t : Tables) (operator class : ℕ) (a b : Option Label) where
     each new before after l (unnumbered key i m w) = at _ new _ l w.tables w.label (full_case key i m.is_key m.missing m.follows w.fresh w.full)
 
   -- keys and room
-  keys_split : (key : StateKey) (n : ℕ) (x : StateKey × ℕ) → IsAmong (keys_with t key n) x → IsAmong t.keys x ⊎ (x ≡ (key, n))
+  pub keys_split : (key : StateKey) (n : ℕ) (x : StateKey × ℕ) → IsAmong (keys_with t key n) x → IsAmong t.keys x ⊎ ◌≡◌ {A = StateKey × ℕ} x (key, n)
   keys_split key n x = by (nat_lt (length t.keys) t.most_keys)
     where
-      by : (c : Bool) → IsAmong (if c then t.keys ++ (key, n) ∷ [] else t.keys) x → IsAmong t.keys x ⊎ (x ≡ (key, n))
+      by : (c : Bool) → IsAmong (if c then t.keys ++ (key, n) ∷ [] else t.keys) x → IsAmong t.keys x ⊎ ◌≡◌ {A = StateKey × ℕ} x (key, n)
       by true h = IsAmong-push t.keys (key, n) x h
       by false h = inl h
 
-  keys_more : (key : StateKey) (n : ℕ) → (more : List (StateKey × ℕ)) × (keys_with t key n ≡ t.keys ++ more)
+  pub keys_more : (key : StateKey) (n : ℕ) → (more : List (StateKey × ℕ)) × (keys_with t key n ≡ t.keys ++ more)
   keys_more key n = by (nat_lt (length t.keys) t.most_keys)
     where
       by : (c : Bool) → (more : List (StateKey × ℕ)) × ((if c then t.keys ++ (key, n) ∷ [] else t.keys) ≡ t.keys ++ more)
@@ -76,61 +74,49 @@ module _ (t : Tables) (operator class : ℕ) (a b : Option Label) where
       by false = ([], sym (append-nil t.keys))
 
   -- where the mark stays away the key is kept
-  keys_kept : (key : StateKey) (n : ℕ) → (if nat_lt (length t.keys) t.most_keys then t.row_full else true) ≡ false → IsAmong (keys_with t key n) (key, n)
+  pub keys_kept : (key : StateKey) (n : ℕ) → (if nat_lt (length t.keys) t.most_keys then t.row_full else true) ≡ false → IsAmong (keys_with t key n) (key, n)
   keys_kept key n = by (nat_lt (length t.keys) t.most_keys)
     where
       by : (c : Bool) → (if c then t.row_full else true) ≡ false → IsAmong (if c then t.keys ++ (key, n) ∷ [] else t.keys) (key, n)
       by true h = (length t.keys, get_last t.keys (key, n))
       by false h = absurd (cc)
 
-  full_mark : (N H : Type 0) → N → H → length t.keys ≤ t.most_keys → ((if nat_lt (length t.keys) t.most_keys then t.row_full else true) ≡ true) ↔ ((t.row_full ≡ true) ⊎ (N × H × (length t.keys ≡ t.most_keys)))
+  pub full_mark : (N H : Type 0) → N → H → length t.keys ≤ t.most_keys → ((if nat_lt (length t.keys) t.most_keys then t.row_full else true) ≡ true) ↔ ((t.row_full ≡ true) ⊎ (N × H × (length t.keys ≡ t.most_keys)))
   full_mark N H n h within = by (nat_lt (length t.keys) t.most_keys) refl
     where
       none_left : (c : Bool) → nat_lt (length t.keys) t.most_keys ≡ c → c ≡ true → length t.keys ≡ t.most_keys → ⊥
       none_left c e f q = let l : length t.keys < t.most_keys = ltb-true (length t.keys) t.most_keys (e ∙ f) in absurd (omega arith)
 
+      back : (length t.keys ≡ t.most_keys → ⊥) → (t.row_full ≡ true) ⊎ (N × H × (length t.keys ≡ t.most_keys)) → t.row_full ≡ true
+      back none (inl k) = k
+      back none (inr q) = absurd (none q.2)
+
       full : (c : Bool) → nat_lt (length t.keys) t.most_keys ≡ c → c ≡ false → length t.keys ≡ t.most_keys
       full c e f = let l : t.most_keys ≤ length t.keys = ltb-false (length t.keys) t.most_keys (e ∙ f) in omega arith
 
       by : (c : Bool) → nat_lt (length t.keys) t.most_keys ≡ c → ((if c then t.row_full else true) ≡ true) ↔ ((t.row_full ≡ true) ⊎ (N × H × (length t.keys ≡ t.most_keys)))
-      by true e = (λ k. inl k, λ q. back q)
-        where
-          back : (t.row_full ≡ true) ⊎ (N × H × (length t.keys ≡ t.most_keys)) → t.row_full ≡ true
-          back (inl k) = k
-          back (inr q) = absurd (none_left true e refl q.2)
+      by true e = (λ k. inl k, λ q. back (none_left true e refl) q)
       by false e = (λ k. inr (n, h, full false e refl), λ q. refl)
 
   module _ (before_call : Before t) where
     -- the states of a kept key, and what follows from them
-    follows_kept : (kids : List Items) (key : StateKey) (n : ℕ) → KidsAre (Means t) a b kids → numbered_key operator class a b ≡ Some key → (kept : IsKept t key n) → Follows t.normal (key_of operator class kids) (before_call.follow key n kept).items
+    pub follows_kept : (kids : List Items) (key : StateKey) (n : ℕ) → KidsAre (Means t) a b kids → numbered_key operator class a b ≡ Some key → (kept : IsKept t key n) → Follows t.normal (key_of operator class kids) (before_call.follow key n kept).items
     follows_kept kids key n h e kept =
         let own = before_call.follow key n kept in
         subst (λ (k : NodeKey). Follows t.normal k own.items) ((key_facts t operator class a b kids key e h).node) own.follows
 
-    within_kept : (key : StateKey) (n : ℕ) → IsKept t key n → n < length t.states
+    pub within_kept : (key : StateKey) (n : ℕ) → IsKept t key n → n < length t.states
     within_kept key n kept = let own = before_call.follow key n kept in slice_get_within t.states n own.items own.stands
 
     -- a key has one number
     pub one_number : (key : StateKey) (m n : ℕ) → IsKept t key m → IsKept t key n → m ≡ n
     one_number key m n h k =
-        let place : h.0 ≡ k.0 = before_call.differ h.0 k.0 key (first t.keys h.0 m h.1) (first t.keys k.0 n k.1) in
-        let e : Some (key, m) ≡ Some (key, n) = sym h.1 ∙ ap (slice_get t.keys) place ∙ k.1 in
-        ap (λ (p : StateKey × ℕ). p.1) (some_same (key, m) (key, n) e)
-      where
-        first : (es : List (StateKey × ℕ)) (i v : ℕ) → slice_get es i ≡ Some (key, v) → slice_get (map (λ e. e.0) es) i ≡ Some key
-        first [] i v e = absurd (let no_item : slice_get {X = StateKey × ℕ} [] i ≡ Some (key, v) = e in cc)
-        first (f ∷ es) 0 v e = ap (λ (o : Option (StateKey × ℕ)). option_first o) e
-          where
-            option_first : Option (StateKey × ℕ) → Option StateKey
-            option_first None = None
-            option_first (Some p) = Some (p.0)
-        first (f ∷ es) (suc i) v e = first es i v e
+        let key_at : (i v : ℕ) → slice_get t.keys i ≡ Some (key, v) → slice_get (map (λ (e : StateKey × ℕ). e.0) t.keys) i ≡ Some key = λ i v e. slice_get-map (λ (p : StateKey × ℕ). p.0) t.keys i ∙ ap (option_map (λ (p : StateKey × ℕ). p.0)) e in
+        let place : h.0 ≡ k.0 = before_call.differ h.0 k.0 key (key_at h.0 m h.1) (key_at k.0 n k.1) in
+        ap (λ (p : StateKey × ℕ). p.1) (some_same (key, m) (key, n) (sym h.1 ∙ ap (slice_get t.keys) place ∙ k.1))
 
     pub states_kept : (new : Tables) (before after : ℕ) (l : Label) → Way t new before after operator class a b l → KeepsStates t new l
     states_kept = each (KeepsStates t) (λ i e f. refl) (λ key n e kept. inl (within_kept key n kept, refl)) (λ key i n e m f s. inl (slice_get_within t.states n i s, refl)) (λ key i e m f fresh room. inr (refl, (i, refl))) (λ key i e m f fresh full. refl)
-
-    pub KeysChange : Tables → Label → Type 0
-    KeysChange s l = HasNoNumber t operator class a b → KeepsKeys t s (numbered_key operator class a b) l
 
     pub keys_changed : (new : Tables) (before after : ℕ) (l : Label) → Way t new before after operator class a b l → HasNoNumber t operator class a b → KeepsKeys t new (numbered_key operator class a b) l
     keys_changed = each (λ s l. HasNoNumber t operator class a b → KeepsKeys t s (numbered_key operator class a b) l)
@@ -139,3 +125,6 @@ module _ (t : Tables) (operator class : ℕ) (a b : Option Label) where
         (λ key i n e m f s none. subst (λ o. KeepsKeys t (with_key (with_evaluation t) key n) o (Numbered n)) (sym e) refl)
         (λ key i e m f fresh room none. subst (λ o. KeepsKeys t (with_key (with_state (with_evaluation t) i) key (length t.states)) o (Numbered (length t.states))) (sym e) refl)
         (λ key i e m f fresh full none. subst (λ o. KeepsKeys t (with_used_up (with_plain (with_evaluation t) i)) o (Plain (length t.plain))) (sym e) refl)
+
+pub known_before_call : (t : Tables) (kept : ℕ) → kept ≡ length t.keys → kept ≤ t.most_keys → AreDifferent (map (λ e. e.0) t.keys) → ((key : StateKey) (n : ℕ) → IsKept t key n → IsTransition t.normal t.states key n) → FollowsIsOne → Before t
+known_before_call t kept e within differ follow one = record { within = omega arith; differ = differ; follow = follow; one = one }

@@ -96,7 +96,7 @@ impl<'n> Automaton for PrivateAutomaton<'n> {
         ensures steps { steps.old ≤ steps.new }
     {
         follows_is_one();
-        let _kept = self.keys();
+        let _ = self.keys();
         self.answer(alloc, operator, class, kids, steps)
     }
 
