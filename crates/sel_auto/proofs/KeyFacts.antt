@@ -52,7 +52,7 @@ transition t operator class a b kids key n i e h follows stands =
       second = facts.second;
       items = i;
       stands = stands;
-      follows = subst (λ (k : NodeKey). Follows t.normal k i) (sym facts.node) (follows kids h)
+      follows = subst (λ (k : NodeKey). Follows t.normal k i) (sym facts.node) (follows kids h);
     }
 
 -- and so is the next number, where the item set becomes that of it
@@ -65,5 +65,5 @@ transition_added t operator class a b kids key n i e h follows number =
       second = IsStateNumber-grown t.states (i ∷ []) key.second facts.second;
       items = i;
       stands = ap (slice_get (t.states ++ i ∷ [])) number ∙ get_last t.states i;
-      follows = subst (λ (k : NodeKey). Follows t.normal k i) (sym (node_key-grown t.states (i ∷ []) key facts.first facts.second ∙ facts.node)) (follows kids h)
+      follows = subst (λ (k : NodeKey). Follows t.normal k i) (sym (node_key-grown t.states (i ∷ []) key facts.first facts.second ∙ facts.node)) (follows kids h);
     }

@@ -1,5 +1,5 @@
 -- What kids' labels mean, as the evaluation of an item set takes it.
-use Rattle.std.proofs.Common.{◌≡◌, ℕ, Option, Some, None, List, [], ◌∷◌, refl, sym, ap, subst, ◌∙◌}
+use Rattle.std.proofs.Common.{◌≡◌, ℕ, Option, Some, None, List, [], ◌∷◌, refl, sym, subst, ◌∙◌}
 use Rattle.sel_normal.specs.NormalForms.{NormalForm}
 use Rattle.sel_items.specs.declared.items.Items.{Items}
 use Rattle.sel_items.specs.declared.label.Label.{Label}

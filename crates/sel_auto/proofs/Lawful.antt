@@ -1,13 +1,13 @@
 -- Tables stay lawful.
-use Rattle.std.proofs.Common.{◌≡◌, ℕ, ◌+◌, ◌<◌, ◌≤◌, ◌⊎◌, inl, inr, Option, Some, None, List, [], ◌∷◌, ◌++◌, length, slice_get, map, refl, sym, ap, subst, ◌∙◌, arith, length-append}
+use Rattle.std.proofs.Common.{◌≡◌, ℕ, ◌+◌, ◌<◌, ◌≤◌, ◌⊎◌, inl, inr, Option, Some, None, List, [], ◌∷◌, ◌++◌, length, refl, sym, subst, arith, length-append}
 use Rattle.sel_normal.specs.NormalForms.{NormalForm}
 use Rattle.sel_items.specs.declared.items.Items.{Items}
 use Rattle.sel_items.specs.KidSets.{kid_sets}
 use Rattle.sel_items.specs.Follows.{key_of, Follows}
 use Rattle.sel_auto.specs.declared.key.StateKey.{StateKey}
-use Rattle.sel_auto.specs.Sets.{IsAmong, AreDifferent}
+use Rattle.sel_auto.specs.Sets.{IsAmong}
 use Rattle.sel_auto.specs.Tables.{Tables, IsKept, kid_state, node_key, IsStateNumber, IsTransition, AreLawful, with_state}
-use Rattle.sel_auto.proofs.Growth.{some_same, get_front, get_kept, IsAmong-push, AreDifferent-push, keys_differ}
+use Rattle.sel_auto.proofs.Growth.{get_front, get_kept, IsAmong-push, AreDifferent-push, keys_differ}
 
 -- more states change no kid's item set
 pub kid_state-grown : (states more : List Items) (o : Option ℕ) → IsStateNumber states o → kid_state (states ++ more) o ≡ kid_state states o
@@ -26,7 +26,7 @@ IsTransition-grown normal states more key n t = record {
   second = IsStateNumber-grown states more key.second t.second;
   items = t.items;
   stands = get_kept states more n t.items t.stands;
-  follows = subst (λ k. Follows normal k t.items) (sym (node_key-grown states more key t.first t.second)) t.follows
+  follows = subst (λ k. Follows normal k t.items) (sym (node_key-grown states more key t.first t.second)) t.follows;
 }
 
 one_longer : {A : Type 0} (xs : List A) (x : A) (most : ℕ) → length xs < most → length (xs ++ x ∷ []) ≤ most
@@ -40,7 +40,7 @@ lawful_state t i lawful fresh room = record {
   keys_differ = lawful.keys_differ;
   states_within = one_longer t.states i t.most_states room;
   states_differ = AreDifferent-push t.states i lawful.states_differ fresh;
-  transitions = λ key n kept. IsTransition-grown t.normal t.states (i ∷ []) key n (lawful.transitions key n kept)
+  transitions = λ key n kept. IsTransition-grown t.normal t.states (i ∷ []) key n (lawful.transitions key n kept);
 }
 
 pub lawful_key : (t : Tables) (key : StateKey) (n : ℕ) → AreLawful t → length t.keys < t.most_keys → ((m : ℕ) → IsKept t key m → ⊥) → IsTransition t.normal t.states key n
@@ -52,7 +52,7 @@ lawful_key t key n lawful room fresh own = record {
   states_differ = lawful.states_differ;
   keys_within = one_longer t.keys (key, n) t.most_keys room;
   keys_differ = keys_differ t.keys key n lawful.keys_differ fresh;
-  transitions = λ k m kept. by k m (IsAmong-push t.keys (key, n) (k, m) kept)
+  transitions = λ k m kept. by k m (IsAmong-push t.keys (key, n) (k, m) kept);
 }
   where
     by : (k : StateKey) (m : ℕ) → IsKept t k m ⊎ ◌≡◌ {A = StateKey × ℕ} (k, m) (key, n) → IsTransition t.normal t.states k m

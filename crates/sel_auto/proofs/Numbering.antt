@@ -1,5 +1,5 @@
 -- A node has a key by numbers exactly where each kid that there is has a numbered label.
-use Rattle.std.proofs.Common.{◌≡◌, ℕ, Option, Some, None, refl}
+use Rattle.std.proofs.Common.{◌≡◌, ℕ, Option, Some, None}
 use Rattle.sel_items.specs.declared.label.Label.{Label}
 use Rattle.sel_items.specs.declared.label.Label.TheVariants.{Numbered, Plain}
 use Rattle.sel_items.specs.Labels.{AreNumbered}

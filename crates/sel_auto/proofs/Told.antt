@@ -1,22 +1,21 @@
 -- What the clauses of a call that labels a node say, shown for each way.
-use Rattle.std.proofs.Common.{◌≡◌, ℕ, ◌+◌, ◌<◌, ◌≤◌, ◌↔◌, ◌⊎◌, inl, inr, Bool, true, false, Option, Some, None, List, [], ◌∷◌, ◌++◌, length, slice_get, nat_lt, if◌then◌else◌, refl, sym, ap, subst, ◌∙◌, arith}
+use Rattle.std.proofs.Common.{◌≡◌, ℕ, ◌<◌, ◌↔◌, ◌⊎◌, inl, inr, true, false, Option, Some, List, [], ◌∷◌, ◌++◌, length, slice_get, refl, sym, ap, subst, ◌∙◌, arith}
 use Rattle.std.proofs.lemmas.List.{append-nil}
 use Rattle.sel_items.specs.declared.items.Items.{Items}
 use Rattle.sel_items.specs.declared.label.Label.{Label}
 use Rattle.sel_items.specs.declared.label.Label.TheVariants.{Numbered, Plain}
-use Rattle.sel_items.specs.Follows.{NodeKey, key_of, Follows}
-use Rattle.sel_items.specs.Words.{FitsWords}
+use Rattle.sel_items.specs.Follows.{NodeKey, key_of}
 use Rattle.sel_items.specs.Labels.{IsPlain, IsNumbered, AreNumbered, KidsAre}
 use Rattle.sel_items.specs.Automata.{IsLabelled}
 use Rattle.sel_auto.specs.declared.key.StateKey.{StateKey}
 use Rattle.sel_auto.specs.Sets.{IsAmong}
 use Rattle.sel_auto.specs.Keys.{numbered_key}
-use Rattle.sel_auto.specs.Tables.{Tables, Means, meaning, IsKept, IsKnown, node_key, keys_with, one_more, with_evaluation, with_plain, with_state, with_key, with_used_up}
+use Rattle.sel_auto.specs.Tables.{Tables, Means, IsKept, IsKnown, node_key, one_more, with_evaluation, with_plain, with_state, with_key, with_used_up}
 use Rattle.sel_auto.specs.TableChanges.{IsKeptFor, HasNoNumber, IsLeftWithout}
 use Rattle.sel_auto.specs.Answers.{FollowsKids, IsRefused}
 use Rattle.sel_auto.proofs.Cases.{Way, over_plain, hit, found, added, unnumbered}
-use Rattle.sel_auto.proofs.Growth.{some_same, get_kept, get_last, get_split, IsAmong-push, IsAmong-kept}
-use Rattle.sel_auto.proofs.KeyFacts.{IsKeyOfKids, key_facts}
+use Rattle.sel_auto.proofs.Growth.{some_same, get_kept, get_last, get_split, IsAmong-kept}
+use Rattle.sel_auto.proofs.KeyFacts.{key_facts}
 use Rattle.sel_auto.proofs.Lawful.{node_key-grown}
 use Rattle.sel_auto.proofs.Numbering.{numbered_by_key, plain_without_key}
 use Rattle.sel_auto.proofs.Ways.{Before, Grown, each, keys_split, keys_more, keys_kept, full_mark, follows_kept, one_number}
@@ -71,7 +70,7 @@ module _ (t : Tables) (operator class : ℕ) (a b : Option Label) (before_call :
         follows = f kids h;
         numbered = λ p. absurd p;
         plain = λ p n. absurd (plain_without_key operator class a b e n);
-        tabled = λ n u r w. absurd (plain_without_key operator class a b e n)
+        tabled = λ n u r w. absurd (plain_without_key operator class a b e n);
       })
       (λ key n e kept. let own = before_call.follow key n kept in record {
         items = own.items;
@@ -79,7 +78,7 @@ module _ (t : Tables) (operator class : ℕ) (a b : Option Label) (before_call :
         follows = follows_kept t operator class a b before_call kids key n h e kept;
         numbered = λ p. (numbered_by_key operator class a b key e, (n, own.stands));
         plain = λ p. absurd p;
-        tabled = λ m u r w. (tt, (key, n, kept, sym (key_facts t operator class a b kids key e h).node))
+        tabled = λ m u r w. (tt, (key, n, kept, sym (key_facts t operator class a b kids key e h).node));
       })
       (λ key i n e m f s. record {
         items = i;
@@ -87,7 +86,7 @@ module _ (t : Tables) (operator class : ℕ) (a b : Option Label) (before_call :
         follows = f kids h;
         numbered = λ p. (numbered_by_key operator class a b key e, (n, s));
         plain = λ p. absurd p;
-        tabled = λ q u r w. (tt, (key, n, keys_kept t operator class a b key n r, sym (key_facts t operator class a b kids key e h).node))
+        tabled = λ q u r w. (tt, (key, n, keys_kept t operator class a b key n r, sym (key_facts t operator class a b kids key e h).node));
       })
       (λ key i e m f fresh room. let facts = key_facts t operator class a b kids key e h in record {
         items = i;
@@ -95,7 +94,7 @@ module _ (t : Tables) (operator class : ℕ) (a b : Option Label) (before_call :
         follows = f kids h;
         numbered = λ p. (numbered_by_key operator class a b key e, (length t.states, get_last t.states i));
         plain = λ p. absurd p;
-        tabled = λ q u r w. (tt, (key, length t.states, keys_kept t operator class a b key (length t.states) r, sym (node_key-grown t.states (i ∷ []) key facts.first facts.second ∙ facts.node)))
+        tabled = λ q u r w. (tt, (key, length t.states, keys_kept t operator class a b key (length t.states) r, sym (node_key-grown t.states (i ∷ []) key facts.first facts.second ∙ facts.node)));
       })
       (λ key i e m f fresh full. record {
         items = i;
@@ -103,7 +102,7 @@ module _ (t : Tables) (operator class : ℕ) (a b : Option Label) (before_call :
         follows = f kids h;
         numbered = λ p. absurd p;
         plain = λ p n. inl refl;
-        tabled = λ n u r w. absurd (let no : true ≡ false = u in cc)
+        tabled = λ n u r w. absurd (let no : true ≡ false = u in cc);
       })
 
   -- tables grow only

@@ -1,5 +1,5 @@
 -- What a call that labels a node tells, shown for each of the five ways.
-use Rattle.std.proofs.Common.{◌≡◌, ℕ, ◌+◌, ◌<◌, ◌≤◌, ◌↔◌, ◌⊎◌, inl, inr, Bool, true, false, Option, Some, None, List, [], ◌∷◌, ◌++◌, length, slice_get, map, nat_lt, if◌then◌else◌, refl, sym, ap, subst, ◌∙◌, arith, ltb-true, ltb-false}
+use Rattle.std.proofs.Common.{◌≡◌, ℕ, ◌<◌, ◌≤◌, ◌↔◌, ◌⊎◌, inl, inr, Bool, true, false, Option, Some, None, List, [], ◌∷◌, ◌++◌, length, slice_get, map, nat_lt, if◌then◌else◌, refl, sym, ap, subst, ◌∙◌, arith, ltb-true, ltb-false}
 use Rattle.std.proofs.lemmas.List.{append-nil}
 use Rattle.std.proofs.lemmas.Option.{slice_get_within, slice_get-map}
 use Rattle.std.specs.Option.{option_map}
@@ -7,21 +7,17 @@ use Rattle.sel_items.specs.declared.items.Items.{Items}
 use Rattle.sel_items.specs.declared.label.Label.{Label}
 use Rattle.sel_items.specs.declared.label.Label.TheVariants.{Numbered, Plain}
 use Rattle.sel_items.specs.Follows.{NodeKey, key_of, Follows}
-use Rattle.sel_items.specs.Words.{FitsWords}
-use Rattle.sel_items.specs.Labels.{IsPlain, IsNumbered, AreNumbered, KidsAre}
-use Rattle.sel_items.specs.Automata.{IsLabelled}
+use Rattle.sel_items.specs.Labels.{KidsAre}
 use Rattle.sel_items.specs.Laws.{FollowsIsOne}
 use Rattle.sel_auto.specs.declared.key.StateKey.{StateKey}
 use Rattle.sel_auto.specs.Sets.{IsAmong, AreDifferent}
 use Rattle.sel_auto.specs.Keys.{numbered_key}
-use Rattle.sel_auto.specs.Tables.{Tables, Means, IsKept, IsKnown, IsTransition, node_key, keys_with, one_more, with_evaluation, with_plain, with_state, with_key, with_used_up}
-use Rattle.sel_auto.specs.TableChanges.{IsKeptFor, HasNoNumber, IsLeftWithout, KeepsStates, KeepsKeys}
+use Rattle.sel_auto.specs.Tables.{Tables, Means, IsKept, IsTransition, keys_with, with_evaluation, with_plain, with_state, with_key, with_used_up}
+use Rattle.sel_auto.specs.TableChanges.{HasNoNumber, KeepsStates, KeepsKeys}
 use Rattle.sel_auto.specs.Answers.{FollowsKids}
-use Rattle.sel_auto.proofs.Cases.{Missed, Way, over_plain, hit, found, added, unnumbered}
-use Rattle.sel_auto.proofs.Growth.{some_same, get_kept, get_last, get_split, IsAmong-push, IsAmong-kept}
-use Rattle.sel_auto.proofs.KeyFacts.{IsKeyOfKids, key_facts}
-use Rattle.sel_auto.proofs.Lawful.{node_key-grown}
-use Rattle.sel_auto.proofs.Numbering.{numbered_by_key, plain_without_key}
+use Rattle.sel_auto.proofs.Cases.{Way, over_plain, hit, found, added, unnumbered}
+use Rattle.sel_auto.proofs.Growth.{some_same, get_last, IsAmong-push}
+use Rattle.sel_auto.proofs.KeyFacts.{key_facts}
 
 -- what is known of the tables before the call
 pub record Before (t : Tables) : Type 0 where
@@ -47,16 +43,16 @@ module _ (t : Tables) (operator class : ℕ) (a b : Option Label) where
       (found_case : (key : StateKey) (i : Items) (n : ℕ) → numbered_key operator class a b ≡ Some key → ((m : ℕ) → IsKept t key m → ⊥) → FollowsKids t operator class a b i → slice_get t.states n ≡ Some i → P (with_key (with_evaluation t) key n) (Numbered n))
       (added_case : (key : StateKey) (i : Items) → numbered_key operator class a b ≡ Some key → ((m : ℕ) → IsKept t key m → ⊥) → FollowsKids t operator class a b i → (IsAmong t.states i → ⊥) → length t.states < t.most_states → P (with_key (with_state (with_evaluation t) i) key (length t.states)) (Numbered (length t.states)))
       (full_case : (key : StateKey) (i : Items) → numbered_key operator class a b ≡ Some key → ((m : ℕ) → IsKept t key m → ⊥) → FollowsKids t operator class a b i → (IsAmong t.states i → ⊥) → length t.states ≡ t.most_states → P (with_used_up (with_plain (with_evaluation t) i)) (Plain (length t.plain)))
-      where
-    at : (s new : Tables) (k l : Label) → new ≡ s → l ≡ k → P s k → P new l
-    at s new k l e f h = subst (λ (x : Tables). P x l) (sym e) (subst (P s) (sym f) h)
+    where
+      at : (s new : Tables) (k l : Label) → new ≡ s → l ≡ k → P s k → P new l
+      at s new k l e f h = subst (λ (x : Tables). P x l) (sym e) (subst (P s) (sym f) h)
 
-    pub each : (new : Tables) (before after : ℕ) (l : Label) → Way t new before after operator class a b l → P new l
-    each new before after l (over_plain e w s) = at _ new _ l w.tables w.label (plain_case w.items e w.follows)
-    each new before after l (hit key e w s) = at _ new _ l w.same w.label (hit_case key w.number e w.kept)
-    each new before after l (found key i m w) = at _ new _ l w.tables w.label (found_case key i w.number m.is_key m.missing m.follows w.stands)
-    each new before after l (added key i m w) = at _ new _ l w.tables w.label (added_case key i m.is_key m.missing m.follows w.fresh w.room)
-    each new before after l (unnumbered key i m w) = at _ new _ l w.tables w.label (full_case key i m.is_key m.missing m.follows w.fresh w.full)
+      pub each : (new : Tables) (before after : ℕ) (l : Label) → Way t new before after operator class a b l → P new l
+      each new before after l (over_plain e w s) = at _ new _ l w.tables w.label (plain_case w.items e w.follows)
+      each new before after l (hit key e w s) = at _ new _ l w.same w.label (hit_case key w.number e w.kept)
+      each new before after l (found key i m w) = at _ new _ l w.tables w.label (found_case key i w.number m.is_key m.missing m.follows w.stands)
+      each new before after l (added key i m w) = at _ new _ l w.tables w.label (added_case key i m.is_key m.missing m.follows w.fresh w.room)
+      each new before after l (unnumbered key i m w) = at _ new _ l w.tables w.label (full_case key i m.is_key m.missing m.follows w.fresh w.full)
 
   -- keys and room
   pub keys_split : (key : StateKey) (n : ℕ) (x : StateKey × ℕ) → IsAmong (keys_with t key n) x → IsAmong t.keys x ⊎ ◌≡◌ {A = StateKey × ℕ} x (key, n)

@@ -24,8 +24,15 @@ pub record Tables : Type 0 where
 -- tables in which nothing stands
 abbrev pub empty_tables : NormalForm → ℕ → ℕ → Tables
 empty_tables normal states rows = record {
-  normal = normal; most_states = states; most_keys = rows; states = []; keys = []; plain = [];
-  used_up = false; row_full = false; evaluated = 0
+  normal = normal;
+  most_states = states;
+  most_keys = rows;
+  states = [];
+  keys = [];
+  plain = [];
+  used_up = false;
+  row_full = false;
+  evaluated = 0;
 }
 
 -- the item set that a label means, where it means one

@@ -1,4 +1,4 @@
-use Rattle.std.proofs.Common.{◌≡◌, ℕ, ◌<◌, ◌⊎◌, inl, inr, List, Result, Ok, ap, sym, subst, ◌∙◌}
+use Rattle.std.proofs.Common.{◌≡◌, ◌⊎◌, inl, inr, List, Result, Ok, ap, sym, subst, ◌∙◌}
 use Rattle.sel_items.specs.declared.label.Label.TheVariants.{Numbered}
 use Rattle.sel_items.specs.Automata.{IsLabelOf}
 use Rattle.sel_items.specs.declared.items.Items.{Items}

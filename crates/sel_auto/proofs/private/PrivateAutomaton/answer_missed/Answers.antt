@@ -1,4 +1,4 @@
-use Rattle.std.proofs.Common.{◌≡◌, ℕ, ◌<◌, ◌∷◌, ◌++◌, [], Some, length, slice_get, refl, sym, subst, ap, ◌∙◌}
+use Rattle.std.proofs.Common.{◌≡◌, ℕ, ◌<◌, Some, length, slice_get, refl, sym, subst, ap, ◌∙◌}
 use Rattle.sel_items.specs.declared.items.Items.{Items}
 use Rattle.sel_auto.specs.Sets.{IsAmong}
 use Rattle.sel_auto.specs.Tables.{Tables, IsKept, IsTransition, with_evaluation, with_state}
@@ -20,7 +20,7 @@ keep-requires-clause-follows g c =
     let i : Items = c.in_ok-items.items in
     let stands : slice_get t.states n ≡ Some i = subst (λ (s : Tables). slice_get s.states n ≡ Some i) e c.in-Some.ensures in
     subst (λ (s : Tables). IsTransition s.normal s.states c.args.key n) (sym e)
-        (transition t (c.args.key).operator (c.args.key).class c.args.kids.0 c.args.kids.1 (c.requires.kids).0 c.args.key n i c.requires.key (c.requires.kids).1 c.in_ok-items.ensures.follows stands)
+    (transition t (c.args.key).operator (c.args.key).class c.args.kids.0 c.args.kids.1 (c.requires.kids).0 c.args.key n i c.requires.key (c.requires.kids).1 c.in_ok-items.ensures.follows stands)
 
 pub returns-in_err-keep-in-Some-clause-refused : goal.returns-in_err-keep-in-Some-clause-refused
 returns-in_err-keep-in-Some-clause-refused g c = on_err _ (refused_evaluated c.args.self.now _ _ _ _ _ c.args.key c.requires.key c.requires.missing (c.in_err-keep-in-Some.ensures.err ∙ c.in_ok-items.ensures.tables))
@@ -39,7 +39,7 @@ keep-requires-then-has_number_left-clause-follows g c =
     let e : c.add_state.new.self ≡ with_state (with_evaluation t) i = c.in_ok-number-in-None.ensures.ok ∙ ap (λ (s : Tables). with_state s i) c.in_ok-items.ensures.tables in
     let number : c.in_ok-number-in-None.number ≡ length t.states = c.in_ok-number-in-None.ensures.number ∙ ap (λ (s : Tables). length s.states) c.in_ok-items.ensures.tables in
     subst (λ (s : Tables). IsTransition s.normal s.states c.args.key c.in_ok-number-in-None.number) (sym e)
-        (transition_added t (c.args.key).operator (c.args.key).class c.args.kids.0 c.args.kids.1 (c.requires.kids).0 c.args.key c.in_ok-number-in-None.number i c.requires.key (c.requires.kids).1 c.in_ok-items.ensures.follows number)
+    (transition_added t (c.args.key).operator (c.args.key).class c.args.kids.0 c.args.kids.1 (c.requires.kids).0 c.args.key c.in_ok-number-in-None.number i c.requires.key (c.requires.kids).1 c.in_ok-items.ensures.follows number)
 
 pub returns-in_err-keep-in-None-clause-refused : goal.returns-in_err-keep-in-None-clause-refused
 returns-in_err-keep-in-None-clause-refused g c =

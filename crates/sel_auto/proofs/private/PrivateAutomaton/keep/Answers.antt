@@ -1,4 +1,4 @@
-use Rattle.std.proofs.Common.{◌≡◌, ℕ, ◌<◌, ◌∷◌, ◌++◌, [], length, subst, sym, arith}
+use Rattle.std.proofs.Common.{ℕ, ◌<◌, ◌∷◌, ◌++◌, [], length, subst, sym, arith}
 use Rattle.sel_auto.specs.Tables.{Tables, IsKept, AreLawful}
 use Rattle.sel_auto.proofs.Lawful.{lawful_key}
 use Rattle.sel_auto.proofs.private.PrivateAutomaton.keep.Goals as goal

@@ -1,4 +1,3 @@
-use Rattle.std.proofs.Common.{◌≡◌, ℕ, MatchOption}
 use Rattle.sel_auto.proofs.private.PrivateAutomaton.kept.Goals as goal
 
 pub returns : goal.returns

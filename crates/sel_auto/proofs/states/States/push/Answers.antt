@@ -1,4 +1,4 @@
-use Rattle.std.proofs.Common.{◌≡◌, List, ◌∷◌, ◌++◌, [], if◌then◌else◌, ap, ◌∙◌}
+use Rattle.std.proofs.Common.{List, ◌∷◌, ◌++◌, [], if◌then◌else◌, ap, ◌∙◌}
 use Rattle.sel_items.specs.declared.items.Items.{Items}
 use Rattle.sel_items.specs.Equality.{items_eq}
 use Rattle.sel_auto.specs.Sets.{IsAmong}

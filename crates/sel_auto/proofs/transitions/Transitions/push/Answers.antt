@@ -1,6 +1,5 @@
-use Rattle.std.proofs.Common.{◌≡◌, ℕ, List, ◌∷◌, ◌++◌, [], subst, ◌∙◌, ap, sym}
+use Rattle.std.proofs.Common.{ℕ, ◌∷◌, ◌++◌, [], ◌∙◌, ap}
 use Rattle.indexmap.proofs.CallerLemmas.{insert_entry-new}
-use Rattle.sel_auto.specs.declared.key.StateKey.{StateKey}
 use Rattle.sel_auto.specs.contracts.key.StateKeyPartialEq.TheImpl.{eq-value}
 use Rattle.sel_auto.specs.Sets.{IsAmong}
 use Rattle.sel_auto.proofs.Finding.{no_lookup}
