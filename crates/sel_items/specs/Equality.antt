@@ -1,5 +1,5 @@
 -- When item sets are equal, and what a hasher is fed of them.
-use Rattle.std.specs.Prelude.{◌≡◌, ◌↔◌, ◌++◌, Bool, IsTrue, List, ℕ, nat_eq}
+use Rattle.std.specs.Prelude.{◌≡◌, ◌↔◌, ◌++◌, Bool, IsTrue, nat_eq}
 use Rattle.std.specs.Cmp.Lexicographic.{pointwise}
 use Rattle.std.specs.Hash.{HashWrites, u16, u64, i64, option, slice}
 use Rattle.std.specs.Option.{option_eq}
