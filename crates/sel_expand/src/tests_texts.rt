@@ -1,5 +1,5 @@
 // The texts of covers under grammars made by hand.
-ghost use Rattle.std.specs.Prelude.{◌≡◌, ◌+◌, ◌<◌, ◌≤◌, length, All, IfOk};
+ghost use Rattle.std.specs.Prelude.{◌≡◌, ◌+◌, ◌<◌, ◌≤◌, length, All, IfOk, OnOk};
 ghost use Rattle.sel_grammar.specs.Limits.{IsArity, IsWithinLimits};
 
 use super::*;
