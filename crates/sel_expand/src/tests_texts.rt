@@ -303,14 +303,33 @@ fn is_too_long(
     }
 }
 
-// One expander serves all trees, and each begins at t1 again.
+// The place of the first list that has another text. One expander serves all trees.
+fn first_wrong(alloc: Global, grammar: &Grammar, cases: &[(&str, &[u16], &str)]) -> Option<usize>
+    requires { IsWithinLimits grammar.now }
+{
+    let mut expander = Expander::new(alloc);
+    for (at, (tree, rules, want)) in cases.iter().enumerate() {
+        if !has_text(
+            alloc,
+            &mut expander,
+            grammar,
+            tree.as_bytes(),
+            rules,
+            want.as_bytes(),
+        ) {
+            return Some(at);
+        }
+    }
+    None
+}
+
+// Each tree begins at t1 again.
 #[test]
 fn a_store_has_its_temporaries_from_one_in_each_tree(rt: HostRuntime) {
     let alloc = rt.alloc();
     let Some(grammar) = store_grammar(alloc).ok() else {
         panic!(rt; "no memory");
     };
-    let mut expander = Expander::new(alloc);
     let cases: [(&str, &[u16], &str); 6] = [
         (
             "ASGN(ADDR:x,ADD(INDIR(ADDR:y),CNST:4))",
@@ -331,19 +350,7 @@ fn a_store_has_its_temporaries_from_one_in_each_tree(rt: HostRuntime) {
             "li t1, -1\naddi t2, t1, -2\nsd t2, x\n",
         ),
     ];
-    for (tree, rules, want) in cases {
-        assert!(rt;
-            has_text(
-                alloc,
-                &mut expander,
-                &grammar,
-                tree.as_bytes(),
-                rules,
-                want.as_bytes()
-            ),
-            "at {tree}"
-        );
-    }
+    assert_eq!(rt; first_wrong(alloc, &grammar, &cases), None);
 }
 
 #[test]
@@ -352,7 +359,6 @@ fn each_form_of_template_prints_its_text(rt: HostRuntime) {
     let Some(grammar) = plain_grammar(alloc).ok() else {
         panic!(rt; "no memory");
     };
-    let mut expander = Expander::new(alloc);
     let cases: [(&str, &[u16], &str); 31] = [
         // the attribute
         ("X:7", &[1], "7"),
@@ -401,19 +407,7 @@ fn each_form_of_template_prints_its_text(rt: HostRuntime) {
             "li t1, 1\nli t2, 3\nt1 2 t2\n",
         ),
     ];
-    for (tree, rules, want) in cases {
-        assert!(rt;
-            has_text(
-                alloc,
-                &mut expander,
-                &grammar,
-                tree.as_bytes(),
-                rules,
-                want.as_bytes()
-            ),
-            "at {tree}, {want}"
-        );
-    }
+    assert_eq!(rt; first_wrong(alloc, &grammar, &cases), None);
 }
 
 // The tree of this many U over X:7.
@@ -437,45 +431,49 @@ fn rules_of(
     Ok(rules)
 }
 
-// A fragment that doubles its kid's value over and over: 1,048,576 bytes are the most that a text may have.
-#[test]
-fn a_text_may_have_a_mebibyte(rt: HostRuntime) {
-    let alloc = rt.alloc();
-    let (Some(grammar), Some(want)) = (
-        plain_grammar(alloc).ok(),
-        repeated(alloc, &[("7", 1_048_576)]).ok(),
+// Whether the tower of this many U has this text, or a text that is too long where none is given. Its
+// topmost U is derived by the rule `first`, and all others by the one that doubles.
+fn tower_is(
+    alloc: Global,
+    expander: &mut Expander,
+    grammar: &Grammar,
+    first: u16,
+    count: usize,
+    want: Option<&[u8]>,
+) -> bool
+    requires { IsWithinLimits grammar.now }
+{
+    let (Some(tree), Some(rules)) = (
+        tower(alloc, count).ok(),
+        rules_of(alloc, first, (4, count.saturating_sub(1)), 1).ok(),
     ) else {
-        panic!(rt; "no memory");
+        return false;
     };
-    let mut expander = Expander::new(alloc);
-    for (count, too_long) in [
-        (20, false),
-        (21, true),
-        (64, true),
-        (1_000, true),
-        (20, false),
-    ] {
-        let (Some(tree), Some(rules)) = (
-            tower(alloc, count).ok(),
-            rules_of(alloc, 4, (4, count - 1), 1).ok(),
-        ) else {
-            panic!(rt; "no memory");
-        };
-        if too_long {
-            assert!(rt;
-                is_too_long(alloc, &mut expander, &grammar, &tree, &rules),
-                "at {count}"
-            );
-        } else {
-            assert!(rt;
-                has_text(alloc, &mut expander, &grammar, &tree, &rules, &want),
-                "at {count}"
-            );
-        }
+    match want {
+        Some(want) => has_text(alloc, expander, grammar, &tree, &rules, want),
+        None => is_too_long(alloc, expander, grammar, &tree, &rules),
     }
 }
 
-// Values of 2^21 to 2^65534 bytes, of which none is printed.
+// A fragment doubles its kid's value over and over. The most that a text may have are 1,048,576 bytes.
+#[test]
+fn a_text_may_have_a_mebibyte(rt: HostRuntime) {
+    let alloc = rt.alloc();
+    let Some(grammar) = plain_grammar(alloc).ok() else {
+        panic!(rt; "no memory");
+    };
+    let Some(want) = repeated(alloc, &[("7", 1_048_576)]).ok() else {
+        panic!(rt; "no memory");
+    };
+    let mut expander = Expander::new(alloc);
+    assert!(rt; tower_is(alloc, &mut expander, &grammar, 4, 20, Some(&want)));
+    assert!(rt; tower_is(alloc, &mut expander, &grammar, 4, 21, None));
+    assert!(rt; tower_is(alloc, &mut expander, &grammar, 4, 64, None));
+    assert!(rt; tower_is(alloc, &mut expander, &grammar, 4, 1_000, None));
+    assert!(rt; tower_is(alloc, &mut expander, &grammar, 4, 20, Some(&want)));
+}
+
+// Values of 2^20 to 2^65533 bytes, of which none is printed.
 #[test]
 fn a_value_that_is_not_printed_has_no_length(rt: HostRuntime) {
     let alloc = rt.alloc();
@@ -483,38 +481,20 @@ fn a_value_that_is_not_printed_has_no_length(rt: HostRuntime) {
         panic!(rt; "no memory");
     };
     let mut expander = Expander::new(alloc);
-    for (first, count, want) in [
-        (5, 21, "x"),
-        (5, 65, "x"),
-        (9, 63, "nop\n"),
-        (9, 65_534, "nop\n"),
-    ] {
-        let (Some(tree), Some(rules)) = (
-            tower(alloc, count).ok(),
-            rules_of(alloc, first, (4, count - 1), 1).ok(),
-        ) else {
-            panic!(rt; "no memory");
-        };
-        assert!(rt;
-            has_text(
-                alloc,
-                &mut expander,
-                &grammar,
-                &tree,
-                &rules,
-                want.as_bytes()
-            ),
-            "at {count}"
-        );
-    }
+    assert!(rt; tower_is(alloc, &mut expander, &grammar, 5, 21, Some(b"x")));
+    assert!(rt; tower_is(alloc, &mut expander, &grammar, 5, 65, Some(b"x")));
+    assert!(rt; tower_is(alloc, &mut expander, &grammar, 9, 63, Some(b"nop\n")));
+    assert!(rt; tower_is(alloc, &mut expander, &grammar, 9, 65_534, Some(b"nop\n")));
 }
 
 // The deepest tree, each node of which prints its kid's value between parentheses.
 #[test]
 fn the_deepest_tree_is_expanded(rt: HostRuntime) {
     let alloc = rt.alloc();
-    let (Some(grammar), Some(tree), Some(rules), Some(want)) = (
-        plain_grammar(alloc).ok(),
+    let Some(grammar) = plain_grammar(alloc).ok() else {
+        panic!(rt; "no memory");
+    };
+    let (Some(tree), Some(rules), Some(want)) = (
         tower(alloc, 65_534).ok(),
         rules_of(alloc, 6, (6, 65_533), 1).ok(),
         repeated(alloc, &[("(", 65_534), ("7", 1), (")", 65_534)]).ok(),
