@@ -323,13 +323,25 @@ fn first_wrong(alloc: Global, grammar: &Grammar, cases: &[(&str, &[u16], &str)])
     None
 }
 
+fn first_wrong_of_stores(
+    alloc: Global,
+    cases: &[(&str, &[u16], &str)],
+) -> Result<Option<usize>, NoMemory> {
+    let grammar = store_grammar(alloc)?;
+    Ok(first_wrong(alloc, &grammar, cases))
+}
+
+fn first_wrong_of_plain(
+    alloc: Global,
+    cases: &[(&str, &[u16], &str)],
+) -> Result<Option<usize>, NoMemory> {
+    let grammar = plain_grammar(alloc)?;
+    Ok(first_wrong(alloc, &grammar, cases))
+}
+
 // Each tree begins at t1 again.
 #[test]
 fn a_store_has_its_temporaries_from_one_in_each_tree(rt: HostRuntime) {
-    let alloc = rt.alloc();
-    let Some(grammar) = store_grammar(alloc).ok() else {
-        panic!(rt; "no memory");
-    };
     let cases: [(&str, &[u16], &str); 6] = [
         (
             "ASGN(ADDR:x,ADD(INDIR(ADDR:y),CNST:4))",
@@ -350,15 +362,11 @@ fn a_store_has_its_temporaries_from_one_in_each_tree(rt: HostRuntime) {
             "li t1, -1\naddi t2, t1, -2\nsd t2, x\n",
         ),
     ];
-    assert_eq!(rt; first_wrong(alloc, &grammar, &cases), None);
+    assert!(rt; matches!(first_wrong_of_stores(rt.alloc(), &cases), Ok(None)));
 }
 
 #[test]
 fn each_form_of_template_prints_its_text(rt: HostRuntime) {
-    let alloc = rt.alloc();
-    let Some(grammar) = plain_grammar(alloc).ok() else {
-        panic!(rt; "no memory");
-    };
     let cases: [(&str, &[u16], &str); 31] = [
         // the attribute
         ("X:7", &[1], "7"),
@@ -407,7 +415,7 @@ fn each_form_of_template_prints_its_text(rt: HostRuntime) {
             "li t1, 1\nli t2, 3\nt1 2 t2\n",
         ),
     ];
-    assert_eq!(rt; first_wrong(alloc, &grammar, &cases), None);
+    assert!(rt; matches!(first_wrong_of_plain(rt.alloc(), &cases), Ok(None)));
 }
 
 // The tree of this many U over X:7.
@@ -455,52 +463,78 @@ fn tower_is(
     }
 }
 
+// The place of the first tower that has another text. One expander serves all of them.
+fn first_wrong_under(
+    alloc: Global,
+    grammar: &Grammar,
+    cases: &[(u16, usize, Option<&[u8]>)],
+) -> Option<usize>
+    requires { IsWithinLimits grammar.now }
+{
+    let mut expander = Expander::new(alloc);
+    for (at, (first, count, want)) in cases.iter().enumerate() {
+        if !tower_is(alloc, &mut expander, grammar, *first, *count, *want) {
+            return Some(at);
+        }
+    }
+    None
+}
+
+fn first_wrong_tower(
+    alloc: Global,
+    cases: &[(u16, usize, Option<&[u8]>)],
+) -> Result<Option<usize>, NoMemory> {
+    let grammar = plain_grammar(alloc)?;
+    Ok(first_wrong_under(alloc, &grammar, cases))
+}
+
 // A fragment doubles its kid's value over and over. The most that a text may have are 1,048,576 bytes.
 #[test]
 fn a_text_may_have_a_mebibyte(rt: HostRuntime) {
     let alloc = rt.alloc();
-    let Some(grammar) = plain_grammar(alloc).ok() else {
-        panic!(rt; "no memory");
-    };
     let Some(want) = repeated(alloc, &[("7", 1_048_576)]).ok() else {
         panic!(rt; "no memory");
     };
-    let mut expander = Expander::new(alloc);
-    assert!(rt; tower_is(alloc, &mut expander, &grammar, 4, 20, Some(&want)));
-    assert!(rt; tower_is(alloc, &mut expander, &grammar, 4, 21, None));
-    assert!(rt; tower_is(alloc, &mut expander, &grammar, 4, 64, None));
-    assert!(rt; tower_is(alloc, &mut expander, &grammar, 4, 1_000, None));
-    assert!(rt; tower_is(alloc, &mut expander, &grammar, 4, 20, Some(&want)));
+    let whole = want.as_slice();
+    let cases: [(u16, usize, Option<&[u8]>); 5] = [
+        (4, 20, Some(whole)),
+        (4, 21, None),
+        (4, 64, None),
+        (4, 1_000, None),
+        (4, 20, Some(whole)),
+    ];
+    assert!(rt; matches!(first_wrong_tower(alloc, &cases), Ok(None)));
 }
 
 // Values of 2^20 to 2^65533 bytes, of which none is printed.
 #[test]
 fn a_value_that_is_not_printed_has_no_length(rt: HostRuntime) {
-    let alloc = rt.alloc();
-    let Some(grammar) = plain_grammar(alloc).ok() else {
-        panic!(rt; "no memory");
-    };
+    let cases: [(u16, usize, Option<&[u8]>); 4] = [
+        (5, 21, Some(b"x")),
+        (5, 65, Some(b"x")),
+        (9, 63, Some(b"nop\n")),
+        (9, 65_534, Some(b"nop\n")),
+    ];
+    assert!(rt; matches!(first_wrong_tower(rt.alloc(), &cases), Ok(None)));
+}
+
+fn nests(alloc: Global, grammar: &Grammar) -> Result<bool, NoMemory>
+    requires { IsWithinLimits grammar.now }
+{
+    let tree = tower(alloc, 65_534)?;
+    let rules = rules_of(alloc, 6, (6, 65_533), 1)?;
+    let want = repeated(alloc, &[("(", 65_534), ("7", 1), (")", 65_534)])?;
     let mut expander = Expander::new(alloc);
-    assert!(rt; tower_is(alloc, &mut expander, &grammar, 5, 21, Some(b"x")));
-    assert!(rt; tower_is(alloc, &mut expander, &grammar, 5, 65, Some(b"x")));
-    assert!(rt; tower_is(alloc, &mut expander, &grammar, 9, 63, Some(b"nop\n")));
-    assert!(rt; tower_is(alloc, &mut expander, &grammar, 9, 65_534, Some(b"nop\n")));
+    Ok(has_text(alloc, &mut expander, grammar, &tree, &rules, &want))
+}
+
+fn nests_deepest(alloc: Global) -> Result<bool, NoMemory> {
+    let grammar = plain_grammar(alloc)?;
+    nests(alloc, &grammar)
 }
 
 // The deepest tree, each node of which prints its kid's value between parentheses.
 #[test]
 fn the_deepest_tree_is_expanded(rt: HostRuntime) {
-    let alloc = rt.alloc();
-    let Some(grammar) = plain_grammar(alloc).ok() else {
-        panic!(rt; "no memory");
-    };
-    let (Some(tree), Some(rules), Some(want)) = (
-        tower(alloc, 65_534).ok(),
-        rules_of(alloc, 6, (6, 65_533), 1).ok(),
-        repeated(alloc, &[("(", 65_534), ("7", 1), (")", 65_534)]).ok(),
-    ) else {
-        panic!(rt; "no memory");
-    };
-    let mut expander = Expander::new(alloc);
-    assert!(rt; has_text(alloc, &mut expander, &grammar, &tree, &rules, &want));
+    assert!(rt; matches!(nests_deepest(rt.alloc()), Ok(true)));
 }
