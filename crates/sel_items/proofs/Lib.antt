@@ -16,3 +16,4 @@ pub mod Starts
 pub mod Subtrees
 pub mod Turns
 pub mod Widths
+pub mod WordBounds
