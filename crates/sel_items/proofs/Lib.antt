@@ -19,3 +19,4 @@ pub mod Starts
 pub mod Subtrees
 pub mod Turns
 pub mod Widths
+pub mod WordBounds

@@ -24,4 +24,8 @@ pub use reduction::relative;
 pub use same::equal_are_same;
 
 #[cfg(test)]
+mod tests_lawful;
+#[cfg(test)]
 mod tests_packing;
+#[cfg(test)]
+mod tests_sets;
