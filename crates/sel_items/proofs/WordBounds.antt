@@ -1,5 +1,5 @@
 -- Costs that fit words are small.
-use Rattle.std.proofs.Common.{arith, ℤ, pos, ◌<ℤ◌, ◌≤ℤ◌, neg_ℤ, ◌^◌, ℕ, ◌≡◌, Some}
+use Rattle.std.proofs.Common.{arith, ℤ, pos, ◌<ℤ◌, ◌≤ℤ◌, neg_ℤ, ◌^◌}
 use Rattle.std.proofs.lemmas.Int.{ints}
 use Rattle.sel_grammar.specs.Costs.{Cost}
 use Rattle.sel_items.specs.declared.items.Items.{Items}
