@@ -1,10 +1,11 @@
 // The item set that follows from the kids' item sets.
-ghost use Rattle.std.specs.Prelude.{◌≡◌, ◌<◌, ◌≤◌, ◌+◌, Some, None, IfOk, length, replicate};
+ghost use Rattle.std.specs.Prelude.{◌≡◌, ◌<◌, ◌≤◌, ◌+◌, Some, None, IfOk, OnErr, length, replicate};
 ghost use Rattle.std.specs.Option.{option_copied};
 ghost use Rattle.sel_grammar.specs.Costs.{◌⊕◌};
 ghost use Rattle.sel_range.specs.Classes.{Occurs};
 ghost use Rattle.sel_normal.specs.Standing.{IsWithin, IsRuleWithin};
 ghost use Rattle.sel_items.specs.declared.items.Item.{Item};
+ghost use Rattle.sel_items.specs.ChainClosing.{LooksAtRules};
 ghost use Rattle.sel_items.specs.CostBounds.{AreBelow, IsBelow};
 ghost use Rattle.sel_items.specs.Entries.{item_at};
 ghost use Rattle.sel_items.specs.Evaluating.{IsBelowIn, IsSmallKid, IsStart, IsStartTo};
@@ -192,6 +193,8 @@ pub fn evaluate<L: Ledger>(
     requires class { IsClassOver normal.now class (option_copied first) }
     ensures follows { IfOk result (λ items. Follows normal.now (key_of operator class (kid_sets (option_copied first.entry) (option_copied second.entry))) items) }
     ensures counted { IfOk result (λ _. steps.old < steps.new) }
+    ensures looks { IfOk result (λ _. LooksAtRules normal.now (steps.old + 1 + length normal.now.rules) steps.new) }
+    ensures begun { OnErr result (steps.new ≡ steps.old + 1) }
     ensures steps { steps.old ≤ steps.new }
 {
     steps.tick();
