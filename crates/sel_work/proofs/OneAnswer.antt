@@ -13,7 +13,6 @@ use Rattle.sel_expand.specs.Expanding.{longest_text}
 use Rattle.sel_work.specs.declared.answer.Answer.{Answer}
 use Rattle.sel_work.specs.declared.answer.Answer.TheVariants.{NoCover, Text, TooLong}
 use Rattle.sel_work.specs.declared.answer.Answer.TheVariants as answers
-use Rattle.sel_work.specs.declared.answer.Goal.{Goal}
 use Rattle.sel_work.specs.declared.answer.Goal.TheVariants as goals
 use Rattle.sel_work.specs.Answers.{IsBestText, IsBestTooLong, IsTreeAnswer}
 use Rattle.sel_work.specs.Laws.{AnswerIsOne}
