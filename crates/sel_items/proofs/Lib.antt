@@ -1,4 +1,5 @@
 pub mod BestParts
+pub mod Closings
 pub mod Deciders
 pub mod EntryGoals
 pub mod GoalKids
@@ -8,6 +9,10 @@ pub mod Meanings
 pub mod NodeSets
 pub mod OneItems
 pub mod OneSet
+pub mod Pigeons
 pub mod Rows
 pub mod Shifts
+pub mod Starts
 pub mod Subtrees
+pub mod Turns
+pub mod Widths

@@ -1,0 +1,12 @@
+pub mod Cases
+pub mod Finding
+pub mod Growth
+pub mod KeyEquality
+pub mod KeyFacts
+pub mod KidMeanings
+pub mod Lawful
+pub mod Numbering
+pub mod Refusals
+pub mod Results
+pub mod Told
+pub mod Ways

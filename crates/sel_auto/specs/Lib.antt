@@ -1,0 +1,6 @@
+pub mod Answers
+pub mod Keys
+pub mod Meanings
+pub mod Sets
+pub mod TableChanges
+pub mod Tables
