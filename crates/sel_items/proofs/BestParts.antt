@@ -5,13 +5,14 @@ use Rattle.sel_grammar.specs.declared.grammar.Grammar.{Grammar}
 use Rattle.sel_grammar.specs.declared.grammar.Pattern.{Pattern}
 use Rattle.sel_grammar.specs.Costs.{Cost, no_cost, ◌⊕◌, IsCheaper}
 use Rattle.sel_grammar.specs.PlainTrees.{PlainTree}
-use Rattle.sel_grammar.specs.Fits.{leaves}
+use Rattle.sel_grammar.specs.Fits.{leaves, subtrees}
 use Rattle.sel_grammar.specs.Derivations.{Derivation, Derivations, no_more, more, Derives, DeriveAll, cost, costs, list, lists}
 use Rattle.sel_grammar.specs.Best.{IsBest, Beats, IsLexLess}
-use Rattle.sel_grammar.specs.Firsts.{IsBefore, IsFirst, Leads, AllFirst}
-use Rattle.sel_grammar.proofs.Order.{IsBefore-append}
+use Rattle.sel_grammar.specs.Firsts.{IsBefore, IsFirst, Leads, LeadAll, AllFirst}
+use Rattle.sel_grammar.proofs.Order.{IsBefore-append, IsLexLess-before}
+use Rattle.sel_grammar.proofs.Firsts.{DeriveAll-first, LeadAll-first}
 use Rattle.sel_grammar.proofs.Words.{lists_are_words}
-use Rattle.sel_normal.specs.Goals.{BeatAll}
+use Rattle.sel_normal.specs.Goals.{BeatAll, IsBestPart}
 use Rattle.sel_items.specs.declared.items.Item.{Item}
 use Rattle.sel_items.specs.declared.items.Items.{Items}
 use Rattle.sel_items.specs.Entries.{item_at, raised}
@@ -36,7 +37,7 @@ cheaper_left : (a b c : Cost) → IsCheaper (a ⊕ c) (b ⊕ c) → IsCheaper a 
 cheaper_left a b c (inl h) = inl (omega arith)
 cheaper_left a b c (inr h) = inr (let e = h.0 in omega arith, lt_left a.second b.second c.second h.1)
 
-cheaper_right : (a b c : Cost) → IsCheaper (a ⊕ b) (a ⊕ c) → IsCheaper b c
+pub cheaper_right : (a b c : Cost) → IsCheaper (a ⊕ b) (a ⊕ c) → IsCheaper b c
 cheaper_right a b c (inl h) = inl (omega arith)
 cheaper_right a b c (inr h) = inr (let e = h.0 in omega arith, lt_right a.second b.second c.second h.1)
 
@@ -46,13 +47,13 @@ firsts_same a b h = ap (λ (c : Cost). c.first) h
 seconds_same : (a b : Cost) → a ≡ b → a.second ≡ b.second
 seconds_same a b h = ap (λ (c : Cost). c.second) h
 
-made : (a b : Cost) → a.first ≡ b.first → a.second ≡ b.second → a ≡ b
+pub made : (a b : Cost) → a.first ≡ b.first → a.second ≡ b.second → a ≡ b
 made a b h k = λ i. record { first = h i; second = k i }
 
 cost_left : (a b c : Cost) → a ⊕ c ≡ b ⊕ c → a ≡ b
 cost_left a b c h = let e = firsts_same (a ⊕ c) (b ⊕ c) h in made a b (omega arith) (same_left a.second b.second c.second (seconds_same (a ⊕ c) (b ⊕ c) h))
 
-cost_right : (a b c : Cost) → a ⊕ b ≡ a ⊕ c → b ≡ c
+pub cost_right : (a b c : Cost) → a ⊕ b ≡ a ⊕ c → b ≡ c
 cost_right a b c h = let e = firsts_same (a ⊕ b) (a ⊕ c) h in made b c (omega arith) (same_right a.second b.second c.second (seconds_same (a ⊕ b) (a ⊕ c) h))
 
 not_self : (x : ℕ) → x < x → ⊥
@@ -171,6 +172,20 @@ module _ (g : Grammar) where
   helper_entry : (part : Pattern) (helper : ℕ) (t : PlainTree) (shift : Cost) (o : Option Item) (item : Item) → PartMeans g part helper t (raised shift o) → o ≡ Some item → item.rule ≡ helper
   helper_entry part helper t shift None item h e = absurd (some_none (sym e))
   helper_entry part helper t shift (Some i) item h e = sym (ap (λ (x : Item). x.rule) (some_same e)) ∙ h.rule_is
+
+-- a part's best kids one by one are best together
+pub best_part : (g : Grammar) (p : Pattern) (t : PlainTree) (under : List PlainTree) (kids : Derivations) → subtrees p t ≡ Some under → AllFirst g kids (leaves p) under → IsBestPart g kids p t
+best_part g p t under kids lies firsts = record {
+  derives = (under, lies, DeriveAll-first g kids (leaves p) under firsts);
+  beats = λ es w.
+      let same : w.0 ≡ under = some_same (sym w.1 ∙ lies) in
+      beat es (LeadAll-first g kids es (leaves p) under firsts (subst (λ ts. DeriveAll g es (leaves p) ts) same w.2));
+}
+  where
+    beat : (es : Derivations) → LeadAll g kids es → (es ≡ kids) ⊎ BeatAll g kids es
+    beat es (inl q) = inl q
+    beat es (inr (inl q)) = inr (inl q)
+    beat es (inr (inr q)) = inr (inr (q.0, IsLexLess-before (lists kids) (lists es) q.1))
 
 pub items_are_nodes : (g : Grammar) (t : PlainTree) (items : Items) → IsItemsOf g t items → IsNodeSet g t items
 items_are_nodes g t items h = record {

@@ -1,9 +1,8 @@
 -- Item sets of trees that aren't too large have small numbers: the least cost is no more than each, and each is the cost of a short derivation.
-use Rattle.std.proofs.Common.{◌≡◌, ℕ, ◌+◌, ◌-◌, ◌*◌, ◌<◌, ◌≤◌, ◌^◌, ◌⊎◌, inl, inr, length, get_or, ap, subst, sym, ◌∙◌, Option, Some, None, arith, ℤ, pos, ◌+ℤ◌, ◌≤ℤ◌, ◌<ℤ◌, neg_ℤ}
+use Rattle.std.proofs.Common.{◌≡◌, ℕ, ◌+◌, ◌*◌, ◌<◌, ◌≤◌, ◌^◌, ◌⊎◌, inl, inr, length, ap, subst, sym, ◌∙◌, Option, Some, None, arith, ℤ, pos, ◌+ℤ◌, ◌≤ℤ◌, ◌<ℤ◌, neg_ℤ}
 use Rattle.std.proofs.lemmas.Int.{ints}
-use Rattle.std.proofs.lemmas.Option.{slice_get-get_or}
 use Rattle.sel_grammar.specs.declared.grammar.Grammar.{Grammar}
-use Rattle.sel_grammar.specs.declared.grammar.Pattern.{Pattern, Leaf}
+use Rattle.sel_grammar.specs.declared.grammar.Pattern.{Pattern}
 use Rattle.sel_grammar.specs.Costs.{Cost, no_cost, ◌⊕◌, IsCheaper}
 use Rattle.sel_grammar.specs.PlainTrees.{PlainTree, size}
 use Rattle.sel_grammar.specs.Fits.{leaves}
@@ -23,6 +22,7 @@ use Rattle.sel_items.specs.Entries.{item_at, raised}
 use Rattle.sel_items.specs.ItemsOf.{SymbolMeans, PartMeans, IsItemsOf}
 use Rattle.sel_items.specs.Laws.{ItemsAreKidSets}
 use Rattle.sel_items.proofs.Rows.{no_entry, below_or_not}
+use Rattle.sel_items.proofs.OneItems.{by_goals}
 
 -- what is best at a part costs least
 part_cheapest : (g : Grammar) (ds : Derivations) (part : Pattern) (t : PlainTree) → (b : IsBestPart g ds part t) → AreCheapest g ds (leaves part) (b.derives).0
@@ -68,17 +68,16 @@ module _ (g : Grammar) (t : PlainTree) (within : IsWithinLimits g) (small : HasS
 
   -- each entry before the least cost is taken away
   absolute_small : (items : Items) (h : IsItemsOf g t items) (n : ℕ) (item : Item) → item_at h.absolute n ≡ Some item → IsSmall (most t) item.cost
-  absolute_small items h n item e = go (below_or_not n (length g.nonterminals)) (below_or_not n (length g.nonterminals + length (places g.rules)))
+  absolute_small items h n item e = go (below_or_not n (length g.nonterminals + length (places g.rules)))
     where
-      inner : (k : ℕ) → n ≡ length g.nonterminals + k → k < length (places g.rules) → IsSmall (most t) item.cost
-      inner k is b =
-          let part : Pattern = get_or (places g.rules) k (Leaf 0) in
-          part_small part (length g.rules + k + 1) (item_at h.absolute (length g.nonterminals + k)) item (h.parts k part (slice_get-get_or (places g.rules) k (Leaf 0) b)) (ap (item_at h.absolute) (sym is) ∙ e)
+      inside : (n : ℕ) → n < length g.nonterminals + length (places g.rules) → (item : Item) → item_at h.absolute n ≡ Some item → IsSmall (most t) item.cost
+      inside = by_goals g (λ n. (item : Item) → item_at h.absolute n ≡ Some item → IsSmall (most t) item.cost)
+          (λ n b item e. symbol_small n (item_at h.absolute n) item (h.symbols n b) e)
+          (λ j part at item e. part_small part (length g.rules + j + 1) (item_at h.absolute (length g.nonterminals + j)) item (h.parts j part at) e)
 
-      go : (n < length g.nonterminals) ⊎ (length g.nonterminals ≤ n) → (n < length g.nonterminals + length (places g.rules)) ⊎ (length g.nonterminals + length (places g.rules) ≤ n) → IsSmall (most t) item.cost
-      go (inl b) c = symbol_small n (item_at h.absolute n) item (h.symbols n b) e
-      go (inr b) (inl c) = inner (n - length g.nonterminals) (omega arith) (omega arith)
-      go (inr b) (inr c) = absurd (some_none (sym e ∙ no_entry h.absolute n (subst (λ x. x ≤ n) (sym h.long) c)))
+      go : (n < length g.nonterminals + length (places g.rules)) ⊎ (length g.nonterminals + length (places g.rules) ≤ n) → IsSmall (most t) item.cost
+      go (inl c) = inside n c item e
+      go (inr c) = absurd (some_none (sym e ∙ no_entry h.absolute n (subst (λ x. x ≤ n) (sym h.long) c)))
 
   least_small : (items : Items) (h : IsItemsOf g t items) (n : ℕ) (item : Item) → item_at items.entries n ≡ Some item → IsSmall (most t) h.least
   least_small items h n item e = go (h.reduced).reached

@@ -3,7 +3,7 @@ use Rattle.std.specs.Prelude.{◌≡◌, ℕ, ◌+◌, ◌<◌, ◌⊎◌, Optio
 use Rattle.sel_grammar.specs.declared.grammar.Grammar.{Grammar}
 use Rattle.sel_grammar.specs.declared.grammar.Rule.{Rule}
 use Rattle.sel_base.specs.declared.range.Range.{Range}
-use Rattle.sel_grammar.specs.declared.grammar.Pattern.{Pattern, Nullary}
+use Rattle.sel_grammar.specs.declared.grammar.Pattern.{Pattern, Leaf, Nullary}
 use Rattle.sel_grammar.specs.Costs.{Cost, no_cost, ◌⊕◌, IsCheaper}
 use Rattle.sel_grammar.specs.PlainTrees.{PlainTree, Node0, Node1, Node2, attribute_of}
 use Rattle.sel_grammar.specs.Fits.{leaves, subtrees, rule_at, in_range}
@@ -11,6 +11,7 @@ use Rattle.sel_grammar.specs.Derivations.{Derivation, Derivations, DeriveAll, co
 use Rattle.sel_grammar.specs.Best.{HasNone}
 use Rattle.sel_grammar.specs.Firsts.{IsFirst, AllFirst}
 use Rattle.sel_normal.specs.NormalForms.{NormalForm}
+use Rattle.sel_normal.specs.Cuts.{IsCut}
 use Rattle.sel_normal.specs.Forms.{places}
 use Rattle.sel_normal.specs.Seen.{range_at}
 use Rattle.sel_items.specs.declared.items.Item.{Item}
@@ -69,6 +70,16 @@ Decides g normal key t = (r : ℕ) (rule : Rule) (ts : List PlainTree) (test : O
 -- a rule with a range has a pattern of one operator without kids
 abbrev pub HasRangesPlaced : Grammar → Type 0
 HasRangesPlaced g = (r : ℕ) (rule : Rule) (x : Range) → rule_at g r ≡ Some rule → rule.range ≡ Some x → (op : ℕ) × (rule.pattern ≡ Nullary op)
+
+-- The key is the tree's under the grammar and its normal form: `shift` was taken away from what the kids' item sets say.
+pub record IsTreeKey (g : Grammar) (normal : NormalForm) (key : NodeKey) (t : PlainTree) (shift : Cost) : Type 0 where
+  pub cut : IsCut g normal
+  pub width : normal.nonterminals ≡ length g.nonterminals + length (places g.rules)
+  pub lefts : (r : ℕ) (rule : Rule) → rule_at g r ≡ Some rule → rule.left < length g.nonterminals
+  pub kids : KidsGoals g (kid_trees t) shift key.kids
+  pub operator : key.operator ≡ operator_of t
+  pub decides : Decides g normal key t
+  pub chains_open : (r : ℕ) (rule : Rule) (m : ℕ) → rule_at g r ≡ Some rule → rule.pattern ≡ Leaf m → rule.range ≡ None
 
 -- What a node's item set means: some cost was taken away from each entry, so that the least is nothing.
 pub record IsNodeSet (g : Grammar) (t : PlainTree) (items : Items) : Type 0 where

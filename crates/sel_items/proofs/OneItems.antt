@@ -31,7 +31,7 @@ all_not_both g d e (inl h) (inr k) = cheaper_not_same (costs g d) (costs g e) h 
 all_not_both g d e (inr h) (inl k) = cheaper_not_same (costs g e) (costs g d) k h.0
 all_not_both g d e (inr h) (inr k) = less_not_both (lists d) (lists e) h.1 k.1
 
-one_kids : (g : Grammar) (p : Pattern) (t : PlainTree) (d e : Derivations) → IsBestPart g d p t → IsBestPart g e p t → d ≡ e
+pub one_kids : (g : Grammar) (p : Pattern) (t : PlainTree) (d e : Derivations) → IsBestPart g d p t → IsBestPart g e p t → d ≡ e
 one_kids g p t d e f h = go (f.beats e h.derives) (h.beats d f.derives)
   where
     go : (e ≡ d) ⊎ BeatAll g d e → (d ≡ e) ⊎ BeatAll g e d → d ≡ e
@@ -55,25 +55,35 @@ one_part g p r t (Some e) (Some f) h k =
     let d : h.best ≡ k.best = one_kids g p t h.best k.best h.is_best k.is_best in
     ap Some (same_items e f (h.cost_is ∙ ap (costs g) d ∙ sym k.cost_is) (h.rule_is ∙ sym k.rule_is))
 
-there : {A : Type 0} (xs : List A) (j : ℕ) → j < length xs → (x : A) × (slice_get xs j ≡ Some x)
+pub there : {A : Type 0} (xs : List A) (j : ℕ) → j < length xs → (x : A) × (slice_get xs j ≡ Some x)
 there [] j h = absurd (let e : j < 0 = h in omega arith)
 there (x ∷ xs) zero h = (x, refl)
 there (x ∷ xs) (suc j) h = there xs j (let e : suc j < suc (length xs) = h in omega arith)
 
+-- what holds at each nonterminal and at each inner part holds at each place
+pub by_goals : (g : Grammar) (P : ℕ → Type 0) → ((n : ℕ) → n < length g.nonterminals → P n) → ((j : ℕ) (part : Pattern) → slice_get (places g.rules) j ≡ Some part → P (length g.nonterminals + j)) → (n : ℕ) → n < length g.nonterminals + length (places g.rules) → P n
+by_goals g P symbols parts n h = go (below_or_not n (length g.nonterminals))
+  where
+    go : (n < length g.nonterminals) ⊎ (length g.nonterminals ≤ n) → P n
+    go (inl b) = symbols n b
+    go (inr b) =
+        let w = there (places g.rules) (n - length g.nonterminals) (omega arith) in
+        let e : length g.nonterminals + (n - length g.nonterminals) ≡ n = omega arith in
+        subst P e (parts (n - length g.nonterminals) w.0 w.1)
+
 pub items_one : (g : Grammar) (t : PlainTree) (i j : Items) → IsItemsOf g t i → IsItemsOf g t j → i ≡ j
 items_one g t i j f h = let e : i.entries ≡ j.entries = one_reduced f.least h.least f.absolute h.absolute i.entries j.entries same (f.long ∙ sym h.long) f.reduced h.reduced in λ k. record { entries = e k }
   where
-    same : (n : ℕ) → item_at f.absolute n ≡ item_at h.absolute n
-    same n = go (below_or_not n (length g.nonterminals)) (below_or_not n (length g.nonterminals + length (places g.rules)))
-      where
-        inner : (k : ℕ) → n ≡ length g.nonterminals + k → k < length (places g.rules) → item_at f.absolute n ≡ item_at h.absolute n
-        inner k is b =
-            let w = there (places g.rules) k b in
-            subst (λ m. item_at f.absolute m ≡ item_at h.absolute m) (sym is)
-            (one_part g w.0 (length g.rules + k + 1) t (item_at f.absolute (length g.nonterminals + k)) (item_at h.absolute (length g.nonterminals + k)) (f.parts k w.0 w.1) (h.parts k w.0 w.1))
+    inside : (n : ℕ) → n < length g.nonterminals + length (places g.rules) → item_at f.absolute n ≡ item_at h.absolute n
+    inside = by_goals g (λ n. item_at f.absolute n ≡ item_at h.absolute n)
+        (λ n b. one_symbol g n t (item_at f.absolute n) (item_at h.absolute n) (f.symbols n b) (h.symbols n b))
+        (λ k part at.
+        let n = length g.nonterminals + k in
+        one_part g part (length g.rules + k + 1) t (item_at f.absolute n) (item_at h.absolute n) (f.parts k part at) (h.parts k part at))
 
-        go : (n < length g.nonterminals) ⊎ (length g.nonterminals ≤ n) → (n < length g.nonterminals + length (places g.rules)) ⊎ (length g.nonterminals + length (places g.rules) ≤ n)
-            → item_at f.absolute n ≡ item_at h.absolute n
-        go (inl b) c = one_symbol g n t (item_at f.absolute n) (item_at h.absolute n) (f.symbols n b) (h.symbols n b)
-        go (inr b) (inl c) = inner (n - length g.nonterminals) (omega arith) (omega arith)
-        go (inr b) (inr c) = no_entry f.absolute n (subst (λ x. x ≤ n) (sym f.long) c) ∙ sym (no_entry h.absolute n (subst (λ x. x ≤ n) (sym h.long) c))
+    same : (n : ℕ) → item_at f.absolute n ≡ item_at h.absolute n
+    same n = go (below_or_not n (length g.nonterminals + length (places g.rules)))
+      where
+        go : (n < length g.nonterminals + length (places g.rules)) ⊎ (length g.nonterminals + length (places g.rules) ≤ n) → item_at f.absolute n ≡ item_at h.absolute n
+        go (inl c) = inside n c
+        go (inr c) = no_entry f.absolute n (subst (λ x. x ≤ n) (sym f.long) c) ∙ sym (no_entry h.absolute n (subst (λ x. x ≤ n) (sym h.long) c))

@@ -1,5 +1,5 @@
 -- Entries of a row that is read and written place by place.
-use Rattle.std.proofs.Common.{◌≡◌, ℕ, zero, suc, ◌+◌, ◌<◌, ◌≤◌, ◌⊎◌, inl, inr, [], ◌∷◌, length, refl, ap, subst, sym, ◌∙◌, Option, Some, None, arith}
+use Rattle.std.proofs.Common.{◌≡◌, ℕ, zero, suc, ◌+◌, ◌<◌, ◌≤◌, ◌⊎◌, inl, inr, [], ◌∷◌, length, map, refl, ap, subst, sym, ◌∙◌, Option, Some, None, arith}
 use Rattle.std.specs.Prelude.{slice_set}
 use Rattle.sel_grammar.specs.Costs.{Cost, no_cost, ◌⊕◌, IsCheaper}
 use Rattle.sel_grammar.proofs.CostLaws.{cheaper_not_same, cheaper_trans, cheaper_same, same_cheaper, right_cheaper, sum_none, sum_same}
@@ -24,6 +24,11 @@ pub length-slice_set : (row : ItemRow) (n : ℕ) (o : Option Item) → length (s
 length-slice_set [] n o = refl
 length-slice_set (x ∷ row) zero o = refl
 length-slice_set (x ∷ row) (suc n) o = ap suc (length-slice_set row n o)
+
+pub item_at-map : (f : Option Item → Option Item) (row : ItemRow) (n : ℕ) → f None ≡ None → item_at (map f row) n ≡ f (item_at row n)
+item_at-map f [] n h = sym h
+item_at-map f (x ∷ row) zero h = refl
+item_at-map f (x ∷ row) (suc n) h = item_at-map f row n h
 
 pub no_entry : (row : ItemRow) (n : ℕ) → length row ≤ n → item_at row n ≡ None
 no_entry [] n h = refl

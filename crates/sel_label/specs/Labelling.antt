@@ -1,11 +1,12 @@
 -- What the labels of a tree's nodes say.
-use Rattle.std.specs.Prelude.{◌≡◌, ℕ, ◌⊎◌, Bool, true, false, Some, List, length, slice_get}
+use Rattle.std.specs.Prelude.{◌≡◌, ℕ, ◌⊎◌, Bool, false, Some, List, length, slice_get}
 use Rattle.sel_grammar.specs.declared.grammar.Grammar.{Grammar}
 use Rattle.sel_grammar.specs.PlainTrees.{PlainTree, Node0, Node1, Node2}
 use Rattle.sel_forest.specs.declared.forest.Node.{Node}
 use Rattle.sel_forest.specs.Places.{IsRootAt}
 use Rattle.sel_items.specs.declared.items.Items.{Items}
 use Rattle.sel_items.specs.declared.label.Label.{Label}
+use Rattle.sel_items.specs.declared.label.Label.TheVariants.{Numbered}
 use Rattle.sel_items.specs.Follows.{NodeKey}
 use Rattle.sel_items.specs.ItemsOf.{IsItemsOf, IsKeyOf}
 use Rattle.sel_items.specs.Labels.{IsNumbered}
@@ -31,6 +32,10 @@ StandsBelow nodes i (Node2 op a t v) j u =
 -- the item set of the tree is held
 abbrev pub IsHeld : Grammar → (Items → Type 0) → PlainTree → Type 0
 IsHeld g held t = (i : Items) × IsItemsOf g t i × held i
+
+-- the item set is held, and a numbered label means it
+abbrev pub IsOfNumber : (Label → Items → Type 0) → (Items → Type 0) → Items → Type 0
+IsOfNumber means held i = held i × ((n : ℕ) × means (Numbered n) i)
 
 -- the item set of each node below the tree's root is
 abbrev pub AreHeldBelow : Grammar → (Items → Type 0) → PlainTree → Type 0

@@ -1,6 +1,7 @@
 //! The labels of a tree's nodes, by any automaton.
 #![tactic(auto)]
 
+mod kids;
 mod labels;
 
 pub use labels::{Labels, label_tree};

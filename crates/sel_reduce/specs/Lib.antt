@@ -1,1 +1,3 @@
+pub mod CostLimits
+pub mod Goals
 pub mod Labelled

@@ -2,5 +2,6 @@
 #![tactic(auto)]
 
 mod reducer;
+mod walk;
 
 pub use reducer::reduce;

@@ -11,8 +11,9 @@ ghost use Rattle.sel_items.specs.Labels.{IsPlain};
 ghost use Rattle.sel_items.specs.Laws.{IsAcceptedForm};
 ghost use Rattle.sel_reduce.specs.Labelled.{IsLabelling};
 
-use sel_base::NoMemory;
-use sel_forest::{Cover, Tree};
+use crate::walk::{Walk, entry_for};
+use sel_base::{List, NoMemory};
+use sel_forest::{Cover, Goal, Tree};
 use sel_grammar::Grammar;
 use sel_items::Automaton;
 use sel_label::Labels;
@@ -47,5 +48,23 @@ pub fn reduce<A: Automaton>(
     ensures same_used_up { A.used_up automaton.new ≡ A.used_up automaton.old }
     ensures same_row_full { A.row_full automaton.new ≡ A.row_full automaton.old }
 {
-    Err(NoMemory)
+    let nodes = tree.nodes.as_slice();
+    let root = Goal {
+        at: nodes.len() - 1,
+        nonterminal: grammar.start,
+    };
+    if entry_for(automaton, labels, root).is_none() {
+        return Ok(None);
+    }
+    let mut walk = Walk::new(alloc, root)?;
+    while let Some(goal) = walk.goals.pop() {
+        match entry_for(automaton, labels, goal) {
+            Some(item) => walk.take(normal, nodes, goal, item.rule)?,
+            None => unreachable!(),
+        }
+    }
+    Ok(Some(Cover {
+        cost: walk.cost,
+        rules: List::from_vec(walk.rules),
+    }))
 }

@@ -1,0 +1,12 @@
+//! The grammars of three instruction sets, which the program ships.
+#![tactic(auto)]
+
+mod aarch64;
+mod rv64i;
+mod shipped;
+mod x86_64;
+
+pub use shipped::target;
+
+#[cfg(test)]
+mod tests;
