@@ -1,5 +1,5 @@
 -- Entries that a test found small, one after the other.
-use Rattle.std.proofs.Common.{◌≡◌, ℕ, zero, suc, ◌+◌, ◌<◌, ◌⊎◌, inl, inr, Option, Some, None, List, [], ◌∷◌, length, ap, subst, ◌∙◌, arith}
+use Rattle.std.proofs.Common.{◌≡◌, ℕ, zero, suc, ◌+◌, ◌<◌, ◌⊎◌, inl, inr, Some, [], ◌∷◌, length, subst, arith}
 use Rattle.sel_items.specs.declared.items.Item.{Item}
 use Rattle.sel_items.specs.CostBounds.{IsBelow, AreBelow}
 use Rattle.sel_items.specs.Entries.{ItemRow, item_at}

@@ -1,4 +1,4 @@
-use Rattle.std.proofs.Common.{◌≡◌, [], ◌∷◌, sym, subst}
+use Rattle.std.proofs.Common.{[], ◌∷◌, sym, subst}
 use Rattle.sel_normal.specs.NormalForms.{NormalForm}
 use Rattle.sel_items.specs.CostBounds.{IsKidSet}
 use Rattle.sel_auto.proofs.tests.label_chain.Goals as goal

@@ -1,5 +1,4 @@
-use Rattle.std.proofs.Common.{◌≡◌, ℕ, ◌<◌, length, arith}
-use Rattle.sel_auto.proofs.SmallEntries.{one_more_small, all_small}
+use Rattle.sel_auto.proofs.SmallEntries.{one_more_small}
 use Rattle.sel_auto.proofs.tests_kid_sets.is_kid_set.Goals as goal
 
 pub loop-n-preserved : goal.loop-n-preserved

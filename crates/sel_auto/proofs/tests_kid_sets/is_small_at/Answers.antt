@@ -1,4 +1,4 @@
-use Rattle.std.proofs.Common.{◌≡◌, ap, ◌∙◌}
+use Rattle.std.proofs.Common.{ap, ◌∙◌}
 use Rattle.std.specs.Option.{option_flatten}
 use Rattle.sel_auto.proofs.tests_kid_sets.is_small_at.Goals as goal
 

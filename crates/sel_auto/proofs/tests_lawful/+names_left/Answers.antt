@@ -1,9 +1,8 @@
 -- An operator's kids are the grammar's, and so is the operator over them.
-use Rattle.std.proofs.Common.{◌≡◌, ◌+◌, ◌-◌, ◌≤◌, ℕ, arith, refl}
+use Rattle.std.proofs.Common.{arith}
 use Rattle.std.proofs.Common.{Option, Some, None}
 use Rattle.std.specs.Prelude.{IfSome}
-use Rattle.sel_grammar.specs.Lawful.{names_of, IsPatternOf}
-use Rattle.sel_auto.proofs.PatternCases.{is_over, are_over, IsOver, AreOver}
+use Rattle.sel_auto.proofs.PatternCases.{is_over, are_over}
 use Rattle.sel_auto.proofs.tests_lawful.+names_left.Goals as goal
 
 some_map : {A : Type 0} {P Q : A → Type 0} (o : Option A) → ((x : A) → P x → Q x) → IfSome o P → IfSome o Q

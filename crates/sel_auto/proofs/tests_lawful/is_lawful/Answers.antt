@@ -1,6 +1,5 @@
 -- What was tested is what a lawful grammar keeps.
-use Rattle.std.proofs.Common.{◌≡◌, ◌<◌, ◌≤◌, ℕ, arith, length}
-use Rattle.sel_grammar.specs.Lawful.{IsLawful}
+use Rattle.std.proofs.Common.{arith}
 use Rattle.sel_auto.proofs.tests_lawful.is_lawful.Goals as goal
 
 pub returns-then-are_arities : goal.returns-then-are_arities
