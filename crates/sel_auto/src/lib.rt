@@ -9,3 +9,10 @@ mod states;
 mod transitions;
 
 pub use private::PrivateAutomaton;
+
+#[cfg(test)]
+mod tests;
+#[cfg(test)]
+mod tests_kid_sets;
+#[cfg(test)]
+mod tests_lawful;

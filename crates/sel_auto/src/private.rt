@@ -215,8 +215,15 @@ impl<'n> PrivateAutomaton<'n> {
         ensures steps { steps.old ≤ steps.new }
     {
         let items = self.evaluate(alloc, operator, class, kids, steps);
-        self.evaluated = self.evaluated.saturating_add(1);
+        self.count_evaluation();
         items
+    }
+
+    /// Counts an evaluation, up to the greatest number of 64 bits.
+    pub(crate) fn count_evaluation(&mut self)
+        ensures { self.new ≡ with_evaluation self.old }
+    {
+        self.evaluated = self.evaluated.saturating_add(1);
     }
 
     /// Keeps the item set of a plain label until the next tree begins.
