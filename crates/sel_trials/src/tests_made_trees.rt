@@ -187,7 +187,7 @@ fn compare_each<L: Ledger>(
     requires valid { IsValidForest accepted.now.grammar forest.now }
 {
     let mut covered: usize = 0;
-    for (index, tree) in forest.trees.as_slice().iter().enumerate() {
+    'trees: for (index, tree) in forest.trees.as_slice().iter().enumerate() {
         let cover = by_labels(automaton, alloc, accepted, tree, steps)?;
         let wanted = by_costs(alloc, accepted, tree)?;
         assert!(rt;
@@ -204,8 +204,9 @@ fn compare_each<L: Ledger>(
     })
 }
 
-// Compares the covers of each tree by an automaton with room for so many states and keys.
-fn compare_with_room<L: Ledger>(
+// Compares the covers of each tree by an automaton with room for so many states and keys, whose steps are
+// counted over the blank.
+fn compare_counted<L: Ledger>(
     blank: Blank,
     rt: &impl Abort,
     alloc: Global,
@@ -227,7 +228,23 @@ fn compare_with_room<L: Ledger>(
     compare_each(rt, alloc, accepted, forest, &mut automaton, &mut steps)
 }
 
-// Makes trees and compares their covers, with ample room, with few keys, with few states and with none.
+fn compare(
+    rt: &impl Abort,
+    alloc: Global,
+    accepted: &Accepted,
+    forest: &Forest,
+    states: u32,
+    rows: u32,
+) -> Result<Outcome, Fail>
+    requires states { states ≤ 32768 }
+    requires rows { rows ≤ 1048576 }
+    requires form { IsAcceptedForm accepted.now.grammar accepted.now.normal }
+    requires valid { IsValidForest accepted.now.grammar forest.now }
+{
+    compare_counted::<Brand>(Blank::new(1), rt, alloc, accepted, forest, states, rows)
+}
+
+// Makes trees and compares their covers, with ample room, with few keys, with few states and with no room.
 fn compare_made(
     rt: &impl Abort,
     alloc: Global,
@@ -239,37 +256,31 @@ fn compare_made(
     let text = made_trees(alloc, seed, material, TREES)?;
     let forest = forest_of(alloc, &accepted, &text)?;
     assert_eq!(rt; forest.trees.len(), TREES as usize);
-    let ample = compare_with_room::<Brand>(
-        Blank::new(1),
-        rt,
-        alloc,
-        &accepted,
-        &forest,
-        32_768,
-        1_048_576,
-    )?;
+    let ample = compare(rt, alloc, &accepted, &forest, 32_768, 1_048_576)?;
     assert!(rt;
         ample.covered >= ENOUGH && ample.uncovered >= ENOUGH,
         "{ample:?}"
     );
     assert!(rt; !ample.used_up && !ample.row_full);
-    for (states, rows) in [(32_768, 2), (2, 2), (0, 0)] {
-        let scarce = compare_with_room::<Brand>(
-            Blank::new(1),
-            rt,
-            alloc,
-            &accepted,
-            &forest,
-            states,
-            rows,
-        )?;
-        assert_eq!(rt;
-            (scarce.covered, scarce.uncovered),
-            (ample.covered, ample.uncovered)
-        );
-        assert_eq!(rt; scarce.used_up, states < 3);
-        assert!(rt; scarce.row_full || states < 3);
-    }
+    let few_keys = compare(rt, alloc, &accepted, &forest, 32_768, 2)?;
+    assert_eq!(rt;
+        few_keys,
+        Outcome {
+            row_full: true,
+            ..ample
+        }
+    );
+    let few_states = compare(rt, alloc, &accepted, &forest, 2, 2)?;
+    assert_eq!(rt; few_states.covered, ample.covered);
+    assert!(rt; few_states.used_up);
+    let no_room = compare(rt, alloc, &accepted, &forest, 0, 0)?;
+    assert_eq!(rt;
+        no_room,
+        Outcome {
+            used_up: true,
+            ..ample
+        }
+    );
     Ok(())
 }
 

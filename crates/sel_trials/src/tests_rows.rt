@@ -45,6 +45,32 @@ a: U(a) "" 1
 a: X "" 0
 "#;
 
+// So many U over X under a grammar. `over` is the number of the rule that is taken at each U.
+#[derive(Clone, Copy)]
+struct Row<'a> {
+    grammar: &'a str,
+    over: u16,
+    above: usize,
+}
+
+const SHORT_ROW: Row<'static> = Row {
+    grammar: SIX_RULES,
+    over: 3,
+    above: 200,
+};
+
+// A tree has 65,535 nodes at most.
+const LONGEST_ROW: Row<'static> = Row {
+    above: 65_534,
+    ..SHORT_ROW
+};
+
+const ROW_OF_TWO_STATES: Row<'static> = Row {
+    grammar: THREE_RULES,
+    over: 2,
+    above: 65_534,
+};
+
 // the text of so many U over X
 fn row_of(alloc: Global, above: usize) -> Result<Vec<u8>, NoMemory> {
     let mut text = Vec::new(alloc);
@@ -160,16 +186,15 @@ fn told<L: Ledger>(
     })
 }
 
-// Labels and reduces a row twice by one automaton, with room for so many states and keys. `over` is the
-// number of the rule that is taken at each U.
-fn told_twice<L: Ledger>(
+// Labels and reduces a row by one automaton with room for so many states and keys, and a second time where
+// that is wanted.
+fn told_counted<L: Ledger>(
     blank: Blank,
     alloc: Global,
-    grammar: &str,
-    over: u16,
-    above: usize,
+    row: Row<'_>,
     states: u32,
     rows: u32,
+    twice: bool,
 ) -> Result<(Outcome, Outcome), Fail>
     requires name { blank.name ≡ L.name }
     requires parts { blank.parts ≡ L.parts }
@@ -177,15 +202,38 @@ fn told_twice<L: Ledger>(
     requires states { states ≤ 32768 }
     requires rows { rows ≤ 1048576 }
 {
-    let accepted = accept(alloc, grammar)?;
-    let text = row_of(alloc, above)?;
+    let accepted = accept(alloc, row.grammar)?;
+    let text = row_of(alloc, row.above)?;
     let forest = forest_of(alloc, &accepted, &text)?;
     let tree = forest.trees.get(0).ok_or("no tree")?;
     let mut steps = Steps::<L>::new(blank);
     let mut automaton = PrivateAutomaton::new(alloc, &accepted.normal, states, rows)?;
-    let first = told(&mut automaton, alloc, &accepted, tree, over, &mut steps)?;
-    let again = told(&mut automaton, alloc, &accepted, tree, over, &mut steps)?;
+    let first = told(&mut automaton, alloc, &accepted, tree, row.over, &mut steps)?;
+    if !twice {
+        return Ok((first, first));
+    }
+    let again = told(&mut automaton, alloc, &accepted, tree, row.over, &mut steps)?;
     Ok((first, again))
+}
+
+fn told_twice(
+    alloc: Global,
+    row: Row<'_>,
+    states: u32,
+    rows: u32,
+) -> Result<(Outcome, Outcome), Fail>
+    requires states { states ≤ 32768 }
+    requires rows { rows ≤ 1048576 }
+{
+    told_counted::<Brand>(Blank::new(1), alloc, row, states, rows, true)
+}
+
+fn told_once(alloc: Global, row: Row<'_>, states: u32, rows: u32) -> Result<Outcome, Fail>
+    requires states { states ≤ 32768 }
+    requires rows { rows ≤ 1048576 }
+{
+    let (first, _) = told_counted::<Brand>(Blank::new(1), alloc, row, states, rows, false)?;
+    Ok(first)
 }
 
 // What is wanted of a row of 200 under the six rules with ample room.
@@ -207,15 +255,7 @@ const AMPLE: Outcome = Outcome {
 
 #[test]
 fn numbers_are_used_up_in_a_row(rt: HostRuntime) -> Result<(), Fail> {
-    let (first, again) = told_twice::<Brand>(
-        Blank::new(1),
-        rt.alloc(),
-        SIX_RULES,
-        3,
-        200,
-        16,
-        100,
-    )?;
+    let (first, again) = told_twice(rt.alloc(), SHORT_ROW, 16, 100)?;
     let want = Outcome {
         plain: 185,
         states: 16,
@@ -237,15 +277,7 @@ fn numbers_are_used_up_in_a_row(rt: HostRuntime) -> Result<(), Fail> {
 
 #[test]
 fn a_row_is_labelled_again_without_an_evaluation(rt: HostRuntime) -> Result<(), Fail> {
-    let (first, again) = told_twice::<Brand>(
-        Blank::new(1),
-        rt.alloc(),
-        SIX_RULES,
-        3,
-        200,
-        1_000,
-        1_000,
-    )?;
+    let (first, again) = told_twice(rt.alloc(), SHORT_ROW, 1_000, 1_000)?;
     assert_eq!(rt; first, AMPLE);
     assert_eq!(rt; again, AMPLE);
     Ok(())
@@ -253,7 +285,7 @@ fn a_row_is_labelled_again_without_an_evaluation(rt: HostRuntime) -> Result<(), 
 
 #[test]
 fn a_row_is_covered_without_any_room(rt: HostRuntime) -> Result<(), Fail> {
-    let (first, again) = told_twice::<Brand>(Blank::new(1), rt.alloc(), SIX_RULES, 3, 200, 0, 0)?;
+    let (first, again) = told_twice(rt.alloc(), SHORT_ROW, 0, 0)?;
     let want = Outcome {
         plain: 201,
         states: 0,
@@ -274,15 +306,7 @@ fn a_row_is_covered_without_any_room(rt: HostRuntime) -> Result<(), Fail> {
 
 #[test]
 fn the_longest_row_is_covered(rt: HostRuntime) -> Result<(), Fail> {
-    let (first, _) = told_twice::<Brand>(
-        Blank::new(1),
-        rt.alloc(),
-        SIX_RULES,
-        3,
-        65_534,
-        4_096,
-        65_536,
-    )?;
+    let told = told_once(rt.alloc(), LONGEST_ROW, 4_096, 65_536)?;
     let want = Outcome {
         plain: 61_439,
         states: 4_096,
@@ -298,21 +322,13 @@ fn the_longest_row_is_covered(rt: HostRuntime) -> Result<(), Fail> {
         rules: (1, 5, 65_536),
         all_are_over: true,
     };
-    assert_eq!(rt; first, want);
+    assert_eq!(rt; told, want);
     Ok(())
 }
 
 #[test]
 fn two_states_label_the_longest_row(rt: HostRuntime) -> Result<(), Fail> {
-    let (first, again) = told_twice::<Brand>(
-        Blank::new(1),
-        rt.alloc(),
-        THREE_RULES,
-        2,
-        65_534,
-        4_096,
-        65_536,
-    )?;
+    let (first, again) = told_twice(rt.alloc(), ROW_OF_TWO_STATES, 4_096, 65_536)?;
     let want = Outcome {
         plain: 0,
         states: 2,
