@@ -1,0 +1,56 @@
+// Covers of trees, by labels and by plain dynamic programming.
+ghost use Rattle.std.specs.Prelude.{◌≡◌, IfOk};
+ghost use Rattle.sel_grammar.specs.PlainTrees.{PlainTree};
+ghost use Rattle.sel_forest.specs.Covers.{IsAnswer};
+ghost use Rattle.sel_forest.specs.Postorder.{IsPostorderOf};
+ghost use Rattle.sel_forest.specs.Valid.{IsValidTree};
+ghost use Rattle.sel_items.specs.Laws.{IsAcceptedForm};
+
+use crate::texts::Accepted;
+use sel_base::{NoMemory, Steps};
+use sel_forest::{Cover, Tree};
+use sel_items::Automaton;
+use sel_label::label_tree;
+use sel_plain::least;
+use sel_reduce::reduce;
+use std::alloc::Global;
+use std::sync::ledger::Ledger;
+
+/// The best cover of a tree, whose nodes the automaton labels.
+pub fn by_labels<A: Automaton, L: Ledger>(
+    automaton: &mut A,
+    alloc: Global,
+    accepted: &Accepted,
+    tree: &Tree,
+    steps: &mut Steps<L>,
+) -> Result<Option<Cover>, NoMemory>
+    requires normal { A.normal automaton.old ≡ accepted.now.normal }
+    requires form { IsAcceptedForm accepted.now.grammar accepted.now.normal }
+    requires tree { IsValidTree accepted.now.grammar tree.now }
+    ensures answer { IfOk result (λ answer. (t : PlainTree) → IsPostorderOf tree.now t → IsAnswer accepted.now.grammar t answer) }
+    ensures normal { A.normal automaton.new ≡ A.normal automaton.old }
+{
+    let Accepted { grammar, normal } = accepted;
+    let labels = label_tree(automaton, alloc, normal, tree, steps)?;
+    reduce(automaton, alloc, grammar, normal, tree, &labels)
+}
+
+/// The best cover of a tree, without an automaton.
+pub fn by_costs(alloc: Global, accepted: &Accepted, tree: &Tree) -> Result<Option<Cover>, NoMemory>
+    requires form { IsAcceptedForm accepted.now.grammar accepted.now.normal }
+    requires tree { IsValidTree accepted.now.grammar tree.now }
+    ensures answer { IfOk result (λ answer. (t : PlainTree) → IsPostorderOf tree.now t → IsAnswer accepted.now.grammar t answer) }
+{
+    least(alloc, &accepted.grammar, tree)
+}
+
+/// Whether both are none, or have the same cost and the same list.
+pub fn are_same(one: &Option<Cover>, other: &Option<Cover>) -> bool {
+    match (one, other) {
+        (None, None) => true,
+        (Some(one), Some(other)) => {
+            one.cost == other.cost && one.rules.as_slice() == other.rules.as_slice()
+        }
+        _ => false,
+    }
+}
