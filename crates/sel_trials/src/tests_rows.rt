@@ -1,7 +1,10 @@
 // Rows of U over X, whose labels were worked out by hand.
 ghost use Rattle.std.specs.Prelude.{◌≡◌, ◌<◌, ◌≤◌};
 ghost use Rattle.sel_forest.specs.Valid.{IsValidForest, IsValidTree};
+ghost use Rattle.sel_items.specs.declared.items.Items.{Items};
+ghost use Rattle.sel_items.specs.Automata.{KeepsMeanings};
 ghost use Rattle.sel_items.specs.Laws.{IsAcceptedForm};
+ghost use Rattle.sel_reduce.specs.Goals.{IsItemsAt};
 ghost use Rattle.sel_reduce.specs.Labelled.{IsLabelling};
 
 use crate::texts::{Accepted, accept, forest_of};
@@ -99,7 +102,28 @@ fn plain_count(labels: &Labels) -> usize {
     count
 }
 
-// the first number of the cost of the root's item for the nonterminal
+// the first number of the cost of the node's item for the nonterminal
+fn item_cost<A: Automaton>(
+    automaton: &mut A,
+    labels: &Labels,
+    at: usize,
+    nonterminal: u16,
+) -> Option<u64>
+    requires items { (i : Items) × IsItemsAt (A.means automaton.old) labels.now.of at i }
+    requires nonterminal { nonterminal < (A.normal automaton.old).nonterminals }
+    ensures normal { A.normal automaton.new ≡ A.normal automaton.old }
+    ensures keeps { KeepsMeanings (A.means automaton.old) (A.means automaton.new) }
+{
+    match labels.of.get(at) {
+        Some(label) => match automaton.item(*label, nonterminal) {
+            Some(item) => Some(item.cost.first),
+            None => None,
+        },
+        None => None,
+    }
+}
+
+// the same of the root's item, where there is such a nonterminal
 fn root_cost<A: Automaton>(
     automaton: &mut A,
     accepted: &Accepted,
@@ -117,10 +141,9 @@ fn root_cost<A: Automaton>(
     if nonterminal >= accepted.normal.nonterminals() {
         return None;
     }
-    let root = tree.nodes.len().checked_sub(1)?;
-    let label = labels.of.get(root)?;
-    let item = automaton.item(*label, nonterminal)?;
-    Some(item.cost.first)
+    let nodes = tree.nodes.as_slice();
+    let root = nodes.len() - 1;
+    item_cost(automaton, labels, root, nonterminal)
 }
 
 // What is told of a labelled row, and of its cover.

@@ -1,8 +1,8 @@
 use Rattle.sel_grammar.proofs.LawfulCosts.{lawful_costs}
 use Rattle.sel_trials.proofs.texts.accept.Goals as goal
 
-pub returns-in_ok-normal : goal.returns-in_ok-normal
-returns-in_ok-normal c = record {
+pub returns : goal.returns
+returns c = record {
   lawful = c.in_ok-grammar.ensures.lawful;
   costs = lawful_costs _ c.in_ok-grammar.ensures.lawful;
   accepted = c.in_ok-normal.ensures.accepted;
