@@ -1,0 +1,4 @@
+pub mod Patterns
+pub mod Sums
+pub mod Lowered
+pub mod Settled

@@ -1,0 +1,4 @@
+//! Forests made from a number.
+#![tactic(auto)]
+
+mod sizes;
