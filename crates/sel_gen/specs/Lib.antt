@@ -1,3 +1,4 @@
 pub mod Sizes
 pub mod Made
 pub mod Lowering
+pub mod Drawing

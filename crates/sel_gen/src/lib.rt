@@ -1,4 +1,6 @@
 //! Forests made from a number.
 #![tactic(auto)]
 
+mod choices;
+mod draw;
 mod sizes;
