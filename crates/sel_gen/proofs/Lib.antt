@@ -5,3 +5,7 @@ pub mod Settled
 pub mod Picks
 pub mod Sharing
 pub mod Symbols
+pub mod Steps
+pub mod Levels
+pub mod Candidates
+pub mod Turns

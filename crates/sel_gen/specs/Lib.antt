@@ -2,3 +2,4 @@ pub mod Sizes
 pub mod Made
 pub mod Lowering
 pub mod Drawing
+pub mod Growing

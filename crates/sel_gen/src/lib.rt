@@ -4,3 +4,4 @@
 mod choices;
 mod draw;
 mod sizes;
+mod tasks;
