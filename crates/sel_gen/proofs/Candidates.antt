@@ -79,6 +79,9 @@ candidate_is sizes n b rule h =
     let (k, is, le) = within_of (rule_size sizes rule) b inside in
     record { left = same_left rule.left n left; usable = usable; size = k; size_is = is; within = le }
 
+pub drawn_candidate : (g : Grammar) (sizes : Sizes) (n b k : ℕ) (rule : Rule) → slice_get (candidates g sizes n b) k ≡ Some rule → IsCandidate sizes n b rule
+drawn_candidate g sizes n b k rule h = candidate_is sizes n b rule (in_filter (is_candidate sizes n b) g.rules k rule h)
+
 -- the sizes of kids that are built are no more than the kids'
 sums_built : (g : Grammar) (limit : ℕ) (sizes : Sizes) → AreLeastSizes g limit sizes → (ds : Derivations) (ns : List ℕ) → ((n : ℕ) (d : Derivation) → Builds g d n → length (list d) ≤ limit → (k : ℕ) × (size_at sizes n ≡ Some k) × (k ≤ length (list d)))
     → BuildAll g ds ns → length (lists ds) ≤ limit → (k : ℕ) × (sum_at sizes ns ≡ Some k) × (k ≤ length (lists ds))
@@ -144,7 +147,7 @@ placed g sizes n b word place choices are some at =
       rule = rule;
       there = ap (slice_get g.rules) (at ∙ (λ i. nth_place (is_open n b) (are i) (word % count i))) ∙ nth_is sizes n b g.rules (word % length (candidates g sizes n b)) inside ∙ drawn;
       drawn = drawn;
-      is = candidate_is sizes n b rule (in_filter (is_candidate sizes n b) g.rules (word % length (candidates g sizes n b)) rule drawn);
+      is = drawn_candidate g sizes n b (word % length (candidates g sizes n b)) rule drawn;
     }
 
 -- what is kept of it has its size
@@ -160,6 +163,10 @@ kept_size g sizes place size rule choices are there usable is =
     mapped [] place h = absurd (some_none (sym h))
     mapped (x ∷ rules) zero h = ap (λ r. Some (choice_of sizes r)) (some_same h)
     mapped (x ∷ rules) (suc place) h = mapped rules place h
+
+pub placed_size : (g : Grammar) (sizes : Sizes) (n b word place : ℕ) (choices : List Choice) → choices ≡ map (choice_of sizes) g.rules → (p : IsPlaced g sizes n b word place)
+    → unwrap_or (option_and_then (λ (c : Choice). c.size) (slice_get choices place)) 0 ≡ (p.is).size
+placed_size g sizes n b word place choices are p = kept_size g sizes place (p.is).size p.rule choices are p.there (p.is).usable (p.is).size_is
 
 -- the shares of a rule's leaves
 leaf_sum : (sizes : Sizes) (ns : List ℕ) (k : ℕ) → sum_at sizes ns ≡ Some k → sum (map (λ n. unwrap_or (size_at sizes n) 0) ns) ≡ k

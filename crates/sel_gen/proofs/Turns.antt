@@ -17,16 +17,17 @@ use Rattle.sel_grammar.specs.PlainTrees.{PlainTree, Node0, Node1, Node2, size}
 use Rattle.sel_forest.specs.declared.forest.Node.{Node}
 use Rattle.sel_forest.specs.Postorder.{postorder}
 use Rattle.sel_forest.specs.Valid.{Takes, IsOperatorOf, IsAttribute, IsOver}
+use Rattle.sel_forest.proofs.Matching.{some_same}
 use Rattle.sel_forest.proofs.Roots.{length-postorder, size_some}
 use Rattle.sel_gen.specs.declared.tasks.Task.{Task}
 use Rattle.sel_gen.specs.declared.tasks.Task.TheVariants.{Derive, Draw, Wrap, Join}
 use Rattle.sel_gen.specs.Sizes.{is_usable, Sizes, size_at, rule_size}
 use Rattle.sel_gen.specs.Made.{word, behind, attribute_by, candidates, leaf_sizes, shared, IsFilled, IsGrown, IsMadeIn, IsMade}
-use Rattle.sel_gen.specs.Growing.{steps, IsSpread, laid, roots_of, AreOver, Finishes, LeaveOne, AreReady, weights, IsGrowing, HasGrown}
+use Rattle.sel_gen.specs.Growing.{steps, IsSpread, IsDerived, laid, roots_of, AreOver, Finishes, LeaveOne, AreReady, weights, IsGrowing, HasGrown}
 use Rattle.sel_gen.proofs.Steps.{LeaveOne-steps, Finishes-steps, AreEnough, AreReady-append, AreReady-steps, weights-append, weights-steps}
 use Rattle.sel_gen.proofs.Levels.{in_levels}
 use Rattle.sel_gen.proofs.Lowered.{rule_size_of}
-use Rattle.sel_gen.proofs.Candidates.{IsCandidate, leaf_sum_is, shared_long, shared_sum, shared_enough}
+use Rattle.sel_gen.proofs.Candidates.{IsCandidate, drawn_candidate, leaf_sum_is, shared_long, shared_sum, shared_enough}
 
 operator_of : (g : Grammar) (op kids : ℕ) → HasOperator g op kids → IsOperatorOf g op kids
 operator_of g op kids (operator, there, arity) = (operator, there, subst (λ a. Takes a kids) (sym arity) refl)
@@ -170,3 +171,10 @@ module _ (g : Grammar) (sizes : Sizes) (budget : ℕ) (before : Lcg) where
               h.whole t last (u, between, (suc levels, record { rule = rule; size = size; drawn = drawn; size_is = size_is; shares = spread.shares; between = after; sharing = spread.sharing; filled = in_them }), others);
         } in
         (subst (λ x. IsGrowing g sizes budget before x after nodes roots) (sym todo) growing, subst (λ x. weights x < weights (Derive n b ∷ reverse old)) (sym todo) lighter)
+
+    pub derived_by : (n b : ℕ) (after : Lcg) (old new : List Task) → IsLawful g → IsDerived g sizes n b words after old new → IsGrowing g sizes budget before (Derive n b ∷ reverse old) words nodes roots
+        → IsGrowing g sizes budget before (reverse new) after nodes roots × (weights (reverse new) < weights (Derive n b ∷ reverse old))
+    derived_by n b after old new lawful d h =
+        let is = drawn_candidate g sizes n b (word words % length (candidates g sizes n b)) d.rule d.drawn in
+        let same : is.size ≡ d.size = some_same (sym is.size_is ∙ d.size_is) in
+        derived n b d.rule after old new lawful is d.number d.there d.size d.size_is (subst (λ x. x ≤ b) same is.within) d.drawn d.spread h

@@ -37,7 +37,9 @@ pub record IsSpread (sizes : Sizes) (rule : Rule) (spare : ℕ) (before after : 
 
 -- a candidate is drawn and spread
 pub record IsDerived (g : Grammar) (sizes : Sizes) (n b : ℕ) (before after : Lcg) (old new : List Task) : Type 0 where
+  pub number : ℕ
   pub rule : Rule
+  pub there : slice_get g.rules number ≡ Some rule
   pub size : ℕ
   pub drawn : slice_get (candidates g sizes n b) (word before % length (candidates g sizes n b)) ≡ Some rule
   pub size_is : rule_size sizes rule ≡ Some size

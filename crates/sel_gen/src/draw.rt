@@ -12,13 +12,21 @@ use sel_base::{List, Name, NoMemory, Range};
 use sel_grammar::Attribute;
 use std::alloc::Global;
 
+/// The next word.
+pub fn next(words: &mut Lcg128Xsl64) -> u64
+    ensures word { result ≡ word words.old }
+    ensures behind { words.new ≡ behind words.old }
+{
+    words.next_word()
+}
+
 /// A number below the count: the next word modulo it.
 pub fn below(words: &mut Lcg128Xsl64, count: u64) -> u64
     requires { 0 < count }
     ensures number { result ≡ word words.old % count }
     ensures behind { words.new ≡ behind words.old }
 {
-    words.next_word() % count
+    next(words) % count
 }
 
 /// What a leaf takes of the spare, where these leaves are behind it.

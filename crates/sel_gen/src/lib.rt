@@ -3,5 +3,6 @@
 
 mod choices;
 mod draw;
+mod grow;
 mod sizes;
 mod tasks;
