@@ -9,3 +9,5 @@ pub mod Steps
 pub mod Levels
 pub mod Candidates
 pub mod Turns
+pub mod Forests
+pub mod OneForest

@@ -3,3 +3,4 @@ pub mod Made
 pub mod Lowering
 pub mod Drawing
 pub mod Growing
+pub mod Laws

@@ -3,6 +3,10 @@
 
 mod choices;
 mod draw;
+mod forest;
 mod grow;
+pub mod laws;
 mod sizes;
 mod tasks;
+
+pub use forest::make_forest;
