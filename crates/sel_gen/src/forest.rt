@@ -40,14 +40,7 @@ fn made_trees(
     let mut growth = Growth::new(alloc);
     let mut trees = Vec::new(alloc);
     for number in 0..count {
-        let nodes = growth.grow(
-            alloc,
-            grammar,
-            sizes,
-            choices.as_slice(),
-            size,
-            &mut words,
-        )?;
+        let nodes = growth.grow(alloc, grammar, sizes, choices.as_slice(), size, &mut words)?;
         trees.push(Tree {
             nodes: List::from_vec(nodes),
         })?;

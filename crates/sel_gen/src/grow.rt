@@ -70,7 +70,12 @@ impl Growth {
         self.leaves.clear();
         push_leaves(&rule.pattern, sizes, &mut self.leaves)?;
         share_out(self.leaves.as_slice(), spare, words, &mut self.shares)?;
-        push_steps(&rule.pattern, &rule.range, &mut self.shares, &mut self.tasks)?;
+        push_steps(
+            &rule.pattern,
+            &rule.range,
+            &mut self.shares,
+            &mut self.tasks,
+        )?;
         Ok(())
     }
 

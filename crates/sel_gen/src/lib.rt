@@ -10,3 +10,6 @@ mod sizes;
 mod tasks;
 
 pub use forest::make_forest;
+
+#[cfg(test)]
+mod tests;

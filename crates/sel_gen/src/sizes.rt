@@ -85,13 +85,7 @@ fn offered(rule: &Rule, limit: u32, sizes: &[Option<u32>]) -> Option<u32>
         return None;
     }
     match rule_size(rule, sizes) {
-        Some(size) => {
-            if size <= limit {
-                Some(size)
-            } else {
-                None
-            }
-        }
+        Some(size) => { if size <= limit { Some(size) } else { None } }
         None => None,
     }
 }
