@@ -1,19 +1,17 @@
 -- Where a budget is enough there are candidates, and what a drawn one is.
-use Rattle.std.proofs.Common.{◌≡◌, ℕ, zero, suc, ◌+◌, ◌-◌, ◌*◌, ◌%◌, ◌<◌, ◌≤◌, ◌⊎◌, inl, inr, Bool, true, false, ◌&&◌, ◌==◌, cond, if◌then◌else◌, List, [], ◌∷◌, ◌++◌, length, map, refl, ap, sym, ◌∙◌, subst, arith, Option, Some, None, slice_get, length-append, add-one}
+use Rattle.std.proofs.Common.{◌≡◌, ℕ, zero, suc, ◌+◌, ◌-◌, ◌%◌, ◌<◌, ◌≤◌, Bool, true, false, ◌&&◌, ◌==◌, cond, if◌then◌else◌, List, [], ◌∷◌, length, map, refl, ap, sym, ◌∙◌, subst, arith, Option, Some, None, slice_get, length-append}
 use Rattle.std.specs.List.{filter, sum, count_by}
 use Rattle.std.specs.Option.{option_map, option_and_then, unwrap_or}
 use Rattle.std.proofs.lemmas.Bool.Decides.{nat_tests}
 use Rattle.std.proofs.lemmas.List.Sums.{sum_by-cons}
-use Rattle.std.proofs.lemmas.Option.{slice_get_within}
 use Rattle.rand_pcg.specs.Lcg.{Lcg}
 use Rattle.sel_grammar.specs.declared.grammar.Grammar.{Grammar}
-use Rattle.sel_grammar.specs.declared.grammar.Pattern.{Pattern}
 use Rattle.sel_grammar.specs.declared.grammar.Rule.{Rule}
 use Rattle.sel_grammar.specs.Derivations.{Derivation, Deriv, Derivations, no_more, more, list, lists}
-use Rattle.sel_grammar.specs.Fits.{leaves, rule_at}
+use Rattle.sel_grammar.specs.Fits.{leaves}
 use Rattle.sel_grammar.specs.Limits.{IsWithinLimits}
 use Rattle.sel_gen.specs.declared.choices.Choice.{Choice}
-use Rattle.sel_gen.specs.Sizes.{is_usable, Builds, BuildAll, IsLeastSize, Sizes, size_at, AreLeastSizes, plus, kids_size, rule_size}
+use Rattle.sel_gen.specs.Sizes.{is_usable, Builds, BuildAll, IsLeastSize, Sizes, size_at, AreLeastSizes, plus, rule_size}
 use Rattle.sel_gen.specs.Made.{is_within, is_candidate, candidates, leaf_sizes, word, taken, shared}
 use Rattle.sel_gen.specs.Drawing.{choice_of, is_open, nth_place}
 use Rattle.sel_forest.proofs.Matching.{some_same, some_none}

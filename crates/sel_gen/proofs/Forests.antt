@@ -1,21 +1,18 @@
 -- Trees made one after the other.
-use Rattle.std.proofs.Common.{◌≡◌, ℕ, zero, suc, ◌+◌, ◌-◌, ◌*◌, ◌<◌, ◌≤◌, ◌⊎◌, inl, inr, Bool, true, false, ◌&&◌, nat_le, max, if◌then◌else◌, List, [], ◌∷◌, ◌++◌, length, refl, ap, sym, ◌∙◌, subst, arith, append_assoc, append-nil, Some, slice_get, length-append}
+use Rattle.std.proofs.Common.{◌≡◌, ℕ, suc, ◌+◌, ◌-◌, ◌<◌, ◌≤◌, ◌⊎◌, inl, inr, true, ◌&&◌, if◌then◌else◌, List, [], ◌∷◌, ◌++◌, length, refl, ap, sym, ◌∙◌, subst, arith, append_assoc, append-nil, Some, slice_get, length-append}
 use Rattle.rand_pcg.specs.Lcg.{Lcg}
 use Rattle.sel_grammar.specs.declared.grammar.Grammar.{Grammar}
 use Rattle.sel_grammar.specs.PlainTrees.{PlainTree, Node0, Node1, Node2, size}
-use Rattle.sel_forest.specs.declared.forest.Node.{Node}
 use Rattle.sel_forest.specs.declared.forest.Tree.{Tree}
 use Rattle.sel_forest.specs.Limits.{most_nodes, greatest_depth}
-use Rattle.sel_forest.specs.Postorder.{postorder}
 use Rattle.sel_forest.specs.Printed.{tree_of}
 use Rattle.sel_forest.specs.Valid.{depth, IsValidTree}
 use Rattle.sel_forest.proofs.Roots.{length-postorder, slice_get-left, slice_get-right}
 use Rattle.sel_forest.proofs.Matching.{some_same}
 use Rattle.std.proofs.lemmas.Option.{slice_get_within}
-use Rattle.sel_gen.specs.Sizes.{Sizes, AreLeastSizes}
-use Rattle.sel_gen.specs.Made.{most_size, first_words, IsMade, is_kept, AreMade}
-use Rattle.sel_gen.specs.Lowering.{AreUpTo}
-use Rattle.sel_gen.specs.Growing.{HasGrown, AreLeastWithin}
+use Rattle.sel_gen.specs.Sizes.{Sizes}
+use Rattle.sel_gen.specs.Made.{most_size, is_kept, AreMade}
+use Rattle.sel_gen.specs.Growing.{HasGrown}
 use Rattle.sel_gen.proofs.Sums.{nat_le_true}
 
 depth_small : (t : PlainTree) → depth t ≤ size t

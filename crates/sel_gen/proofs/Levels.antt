@@ -1,5 +1,5 @@
 -- Trees made in so many levels are made in more.
-use Rattle.std.proofs.Common.{◌≡◌, ℕ, zero, suc, ◌+◌, ◌<◌, ◌≤◌, ◌⊎◌, inl, inr, Option, List, length, drop, arith, subst, sym}
+use Rattle.std.proofs.Common.{◌≡◌, ℕ, zero, suc, ◌+◌, Option, List, length, drop, arith, subst}
 use Rattle.rand_pcg.specs.Lcg.{Lcg}
 use Rattle.sel_base.specs.declared.range.Range.{Range}
 use Rattle.sel_grammar.specs.declared.grammar.Grammar.{Grammar}
@@ -7,7 +7,7 @@ use Rattle.sel_grammar.specs.declared.grammar.Pattern.{Pattern, Leaf, Nullary, U
 use Rattle.sel_grammar.specs.Fits.{leaves}
 use Rattle.sel_grammar.specs.PlainTrees.{PlainTree}
 use Rattle.sel_gen.specs.Sizes.{Sizes}
-use Rattle.sel_gen.specs.Made.{Making, first_share, IsFilled, IsGrown, IsMadeIn, IsMade}
+use Rattle.sel_gen.specs.Made.{Making, first_share, IsFilled, IsMadeIn, IsMade}
 
 pub IsFilled-map : (Made Wider : Making) → ((n b : ℕ) (before : Lcg) (t : PlainTree) (after : Lcg) → Made n b before t after → Wider n b before t after)
     → (range : Option Range) (p : Pattern) (shares : List ℕ) (before : Lcg) (t : PlainTree) (after : Lcg) → IsFilled Made range p shares before t after → IsFilled Wider range p shares before t after

@@ -1,5 +1,5 @@
 -- A rule that lowers a size: the sizes stay derivations', and come nearer to the least.
-use Rattle.std.proofs.Common.{◌≡◌, ℕ, zero, suc, ◌+◌, ◌-◌, ◌<◌, ◌≤◌, ◌⊎◌, inl, inr, Bool, true, false, nat_le, if◌then◌else◌, List, [], ◌∷◌, ◌++◌, length, refl, ap, sym, ◌∙◌, subst, arith, Option, Some, None, slice_get, get_or, length-append, add-one}
+use Rattle.std.proofs.Common.{◌≡◌, ℕ, zero, suc, ◌+◌, ◌<◌, ◌≤◌, ◌⊎◌, inl, inr, Bool, true, false, nat_le, if◌then◌else◌, List, [], ◌∷◌, ◌++◌, length, refl, ap, sym, ◌∙◌, subst, arith, Option, Some, None, slice_get, get_or, length-append, add-one}
 use Rattle.std.specs.Prelude.{slice_set}
 use Rattle.std.specs.Option.{option_map, option_flatten}
 use Rattle.std.proofs.lemmas.List.Sums.{sum_by-set}
@@ -8,9 +8,9 @@ use Rattle.sel_grammar.specs.declared.grammar.Grammar.{Grammar}
 use Rattle.sel_grammar.specs.declared.grammar.Pattern.{Pattern, Leaf, Nullary, Unary', Binary', end_of-Pattern, more_of-Pattern}
 use Rattle.sel_grammar.specs.declared.grammar.Rule.{Rule}
 use Rattle.sel_grammar.specs.Fits.{leaves, rule_at}
-use Rattle.sel_grammar.specs.Derivations.{Derivation, Deriv, Derivations, no_more, more, list, lists}
-use Rattle.sel_gen.specs.Sizes.{is_usable, Builds, BuildAll, IsBuiltBy, Sizes, size_at, plus, kids_size, rule_size}
-use Rattle.sel_gen.specs.Lowering.{capped, AreUpTo, AreBuilt, offered, IsAtMost, Withstands, IsLowered, distance, total_distance}
+use Rattle.sel_grammar.specs.Derivations.{Deriv, Derivations, no_more, more, list, lists}
+use Rattle.sel_gen.specs.Sizes.{is_usable, BuildAll, IsBuiltBy, Sizes, size_at, plus, kids_size, rule_size}
+use Rattle.sel_gen.specs.Lowering.{capped, AreUpTo, AreBuilt, offered, IsAtMost, IsLowered, distance, total_distance}
 use Rattle.sel_forest.proofs.Matching.{some_same, some_none}
 use Rattle.sel_gen.proofs.Sums.{nat_le_is, plus_parts}
 

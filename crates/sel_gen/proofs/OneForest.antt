@@ -1,21 +1,18 @@
 -- What is made is one at most.
-use Rattle.std.proofs.Common.{◌≡◌, ℕ, zero, suc, ◌+◌, ◌-◌, ◌<◌, ◌≤◌, ◌%◌, List, [], ◌∷◌, length, drop, refl, ap, sym, ◌∙◌, subst, arith, Option, Some, None, slice_get, if◌then◌else◌}
-use Rattle.std.specs.Option.{option_flatten}
+use Rattle.std.proofs.Common.{◌≡◌, ℕ, zero, suc, ◌-◌, ◌<◌, List, [], ◌∷◌, length, drop, refl, ap, sym, ◌∙◌, subst, arith, Option, Some, None, if◌then◌else◌}
 use Rattle.rand_pcg.specs.Lcg.{Lcg}
 use Rattle.sel_base.specs.declared.range.Range.{Range}
 use Rattle.sel_grammar.specs.declared.grammar.Attribute.TheVariants.{Absent}
 use Rattle.sel_grammar.specs.declared.grammar.Grammar.{Grammar}
 use Rattle.sel_grammar.specs.declared.grammar.Pattern.{Pattern, Leaf, Nullary, Unary', Binary', end_of-Pattern, more_of-Pattern}
 use Rattle.sel_grammar.specs.declared.grammar.Rule.{Rule}
-use Rattle.sel_grammar.specs.Derivations.{Derivation, list}
 use Rattle.sel_grammar.specs.Fits.{leaves}
-use Rattle.sel_grammar.specs.PlainTrees.{PlainTree, Node0, Node1, Node2}
-use Rattle.sel_forest.specs.declared.forest.Forest.{Forest}
+use Rattle.sel_grammar.specs.PlainTrees.{PlainTree, Node1, Node2}
 use Rattle.sel_forest.specs.declared.forest.Tree.{Tree}
 use Rattle.sel_forest.specs.Printed.{tree_of}
 use Rattle.sel_forest.proofs.Matching.{some_same}
-use Rattle.sel_gen.specs.Sizes.{Builds, IsLeastSize, Sizes, size_at, AreLeastSizes, rule_size}
-use Rattle.sel_gen.specs.Made.{word, behind, leaf_sizes, shared, candidates, Making, first_share, IsFilled, IsGrown, IsMadeIn, IsMade, is_kept, AreMade, AreMadeFor, IsMadeForest, first_words}
+use Rattle.sel_gen.specs.Sizes.{IsLeastSize, Sizes, size_at, AreLeastSizes, rule_size}
+use Rattle.sel_gen.specs.Made.{behind, leaf_sizes, shared, Making, first_share, IsFilled, IsGrown, IsMadeIn, is_kept, AreMade, AreMadeFor, first_words}
 use Rattle.sel_gen.specs.Laws.{MadeIsOne}
 
 size_one : (g : Grammar) (limit n : ℕ) (o p : Option ℕ) → IsLeastSize g limit n o → IsLeastSize g limit n p → o ≡ p

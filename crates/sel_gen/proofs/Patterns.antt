@@ -1,5 +1,5 @@
 -- Words on patterns, at each form of a pattern.
-use Rattle.std.proofs.Common.{◌≡◌, ℕ, zero, suc, ◌+◌, ◌≤◌, Option, List, [], ◌∷◌, ◌++◌, length, take, drop, reverse, refl, ap, sym, ◌∙◌, subst, arith, append_assoc, append-nil, length-append, length-drop}
+use Rattle.std.proofs.Common.{◌≡◌, ℕ, ◌+◌, ◌≤◌, Option, List, [], ◌∷◌, ◌++◌, length, take, drop, reverse, refl, ap, sym, ◌∙◌, arith, append_assoc, length-append, length-drop}
 use Rattle.std.proofs.lemmas.List.{map-append, reverse-append, take-append-drop, length-take-le, drop-append-le}
 use Rattle.std.specs.Option.{unwrap_or}
 use Rattle.sqlite_items.specs.declared.boxed.Boxed.{Boxed}
@@ -10,9 +10,9 @@ use Rattle.sel_base.specs.declared.range.Range.{Range}
 use Rattle.sel_grammar.specs.declared.grammar.Pattern.{Leaf, Nullary, Unary', Binary', end_of-Pattern, more_of-Pattern}
 use Rattle.sel_grammar.specs.Fits.{leaves}
 use Rattle.sel_gen.specs.declared.tasks.Task.{Task}
-use Rattle.sel_gen.specs.declared.tasks.Task.TheVariants.{Derive, Draw, Wrap, Join}
+use Rattle.sel_gen.specs.declared.tasks.Task.TheVariants.{Wrap, Join}
 use Rattle.sel_gen.specs.Sizes.{Sizes, size_at}
-use Rattle.sel_gen.specs.Made.{leaf_sizes, first_share}
+use Rattle.sel_gen.specs.Made.{leaf_sizes}
 use Rattle.sel_gen.specs.Growing.{steps, HasPushed}
 use Rattle.sel_gen.specs.Lowering.{small_sum, small_kids_size}
 

@@ -1,11 +1,11 @@
 -- Sizes that no rule lowers are the least.
-use Rattle.std.proofs.Common.{◌≡◌, ℕ, zero, suc, ◌+◌, ◌-◌, ◌<◌, ◌≤◌, ◌⊎◌, inl, inr, Bool, true, nat_le, if◌then◌else◌, List, [], ◌∷◌, ◌++◌, length, refl, ap, sym, ◌∙◌, subst, arith, Option, Some, None, slice_get, length-append}
+use Rattle.std.proofs.Common.{◌≡◌, ℕ, zero, suc, ◌+◌, ◌<◌, ◌≤◌, ◌⊎◌, inl, inr, true, if◌then◌else◌, List, [], ◌∷◌, length, refl, ap, sym, ◌∙◌, subst, arith, Option, Some, None, slice_get, length-append}
 use Rattle.std.specs.Option.{option_map}
 use Rattle.sel_grammar.specs.declared.grammar.Grammar.{Grammar}
 use Rattle.sel_grammar.specs.declared.grammar.Rule.{Rule}
 use Rattle.sel_grammar.specs.Fits.{leaves, rule_at}
 use Rattle.sel_grammar.specs.Derivations.{Derivation, Deriv, Derivations, no_more, more, list, lists}
-use Rattle.sel_gen.specs.Sizes.{is_usable, Builds, BuildAll, IsLeastSize, Sizes, size_at, AreLeastSizes, plus, kids_size, rule_size}
+use Rattle.sel_gen.specs.Sizes.{is_usable, Builds, BuildAll, IsLeastSize, Sizes, size_at, AreLeastSizes, plus, rule_size}
 use Rattle.sel_gen.specs.Lowering.{capped, AreUpTo, AreBuilt, offered, IsAtMost, Withstands, AllWithstood}
 use Rattle.sel_forest.proofs.Matching.{some_same}
 use Rattle.sel_gen.proofs.Sums.{nat_le_true}

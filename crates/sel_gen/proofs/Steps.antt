@@ -1,5 +1,5 @@
 -- A pattern's steps, done one after the other, fill the pattern.
-use Rattle.std.proofs.Common.{◌≡◌, ℕ, zero, suc, ◌+◌, ◌-◌, ◌*◌, ◌<◌, ◌≤◌, true, Option, Some, List, [], ◌∷◌, ◌++◌, length, drop, refl, ap, sym, ◌∙◌, subst, arith, append_assoc, length-append}
+use Rattle.std.proofs.Common.{◌≡◌, ℕ, suc, ◌+◌, ◌*◌, ◌≤◌, true, Option, Some, List, [], ◌∷◌, ◌++◌, length, drop, refl, ap, sym, ◌∙◌, subst, arith, append_assoc, length-append}
 use Rattle.std.specs.List.{sum}
 use Rattle.std.proofs.lemmas.List.{drop-drop}
 use Rattle.std.proofs.lemmas.List.Sums.{sum_by-cons}
@@ -12,10 +12,10 @@ use Rattle.sel_grammar.specs.Fits.{leaves}
 use Rattle.sel_grammar.specs.Lawful.{names_of, IsPatternOf}
 use Rattle.sel_grammar.specs.PlainTrees.{PlainTree, Node0, Node1, Node2}
 use Rattle.sel_gen.specs.declared.tasks.Task.{Task}
-use Rattle.sel_gen.specs.declared.tasks.Task.TheVariants.{Derive, Draw, Wrap, Join}
+use Rattle.sel_gen.specs.declared.tasks.Task.TheVariants.{Wrap, Join}
 use Rattle.sel_gen.specs.Sizes.{is_usable, Sizes, size_at}
-use Rattle.sel_gen.specs.Made.{word, behind, attribute_by, Making, first_share, IsFilled}
-use Rattle.sel_gen.specs.Growing.{steps, Finishes, LeaveOne, AreReady, weight, weights}
+use Rattle.sel_gen.specs.Made.{word, behind, attribute_by, Making, IsFilled}
+use Rattle.sel_gen.specs.Growing.{steps, Finishes, LeaveOne, AreReady, weights}
 
 pub LeaveOne-steps : (range : Option Range) (p : Pattern) (shares : List ℕ) (rest : List Task) (count : ℕ) → LeaveOne rest (suc count) → LeaveOne (steps range p shares ++ rest) count
 LeaveOne-steps range (Leaf n) shares rest count h = h

@@ -1,13 +1,11 @@
 -- Sums of sizes, which are small, and what they say of derivations.
-use Rattle.std.proofs.Common.{◌≡◌, ℕ, suc, ◌+◌, ◌-◌, ◌*◌, ◌<◌, ◌≤◌, ◌^◌, ◌⊎◌, inl, inr, Bool, true, false, ◌&&◌, nat_le, if◌then◌else◌, List, [], ◌∷◌, ◌++◌, length, refl, ap, sym, ◌∙◌, subst, arith, Option, Some, None, slice_get, length-append}
+use Rattle.std.proofs.Common.{◌≡◌, ℕ, ◌+◌, ◌*◌, ◌<◌, ◌≤◌, ◌^◌, true, false, nat_le, if◌then◌else◌, refl, ap, sym, ◌∙◌, arith, Option, Some, None}
 use Rattle.std.specs.Option.{option_map}
 use Rattle.std.proofs.lemmas.Bool.Decides.{nat_tests}
-use Rattle.sel_grammar.specs.declared.grammar.Grammar.{Grammar}
 use Rattle.sel_grammar.specs.declared.grammar.Pattern.{Pattern, Leaf, Nullary, Unary', Binary', end_of-Pattern, more_of-Pattern}
-use Rattle.sel_grammar.specs.declared.grammar.Rule.{Rule}
 use Rattle.sel_grammar.specs.Lawful.{names_of}
 use Rattle.sel_grammar.specs.Limits.{most_names}
-use Rattle.sel_gen.specs.Sizes.{Sizes, size_at, plus, kids_size}
+use Rattle.sel_gen.specs.Sizes.{Sizes, plus, kids_size}
 use Rattle.sel_gen.specs.Made.{most_size}
 use Rattle.sel_gen.specs.Lowering.{capped, small_sum, small_kids_size, AreUpTo}
 use Rattle.sel_forest.proofs.Matching.{some_same, some_none}

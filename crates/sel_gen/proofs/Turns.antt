@@ -1,14 +1,12 @@
 -- One turn of a tree's growth.
-use Rattle.std.proofs.Common.{◌≡◌, ℕ, zero, suc, ◌+◌, ◌-◌, ◌*◌, ◌%◌, ◌<◌, ◌≤◌, true, List, [], ◌∷◌, ◌++◌, length, reverse, refl, ap, sym, ◌∙◌, subst, arith, append_assoc, append-nil, Some, slice_get, length-append}
+use Rattle.std.proofs.Common.{◌≡◌, ℕ, suc, ◌+◌, ◌-◌, ◌*◌, ◌%◌, ◌<◌, ◌≤◌, List, [], ◌∷◌, ◌++◌, length, reverse, refl, ap, sym, ◌∙◌, subst, arith, append_assoc, Some, slice_get, length-append}
 use Rattle.std.proofs.lemmas.List.{reverse-append, reverse-reverse}
 use Rattle.std.specs.List.{sum}
 use Rattle.rand_pcg.specs.Lcg.{Lcg}
 use Rattle.sel_base.specs.declared.range.Range.{Range}
 use Rattle.std.specs.Prelude.{Option}
-use Rattle.sel_grammar.specs.declared.grammar.Attribute.{Attribute}
 use Rattle.sel_grammar.specs.declared.grammar.Attribute.TheVariants.{Absent}
 use Rattle.sel_grammar.specs.declared.grammar.Grammar.{Grammar}
-use Rattle.sel_grammar.specs.declared.grammar.Operator.{Operator}
 use Rattle.sel_grammar.specs.declared.grammar.Rule.{Rule}
 use Rattle.sel_grammar.specs.Fits.{leaves}
 use Rattle.sel_grammar.specs.Lawful.{HasOperator, IsLawful, names_of}
@@ -16,18 +14,18 @@ use Rattle.sel_grammar.specs.Limits.{most_names}
 use Rattle.sel_grammar.specs.PlainTrees.{PlainTree, Node0, Node1, Node2, size}
 use Rattle.sel_forest.specs.declared.forest.Node.{Node}
 use Rattle.sel_forest.specs.Postorder.{postorder}
-use Rattle.sel_forest.specs.Valid.{Takes, IsOperatorOf, IsAttribute, IsOver}
+use Rattle.sel_forest.specs.Valid.{Takes, IsOperatorOf, IsAttribute}
 use Rattle.sel_forest.proofs.Matching.{some_same}
-use Rattle.sel_forest.proofs.Roots.{length-postorder, size_some}
+use Rattle.sel_forest.proofs.Roots.{length-postorder}
 use Rattle.sel_gen.specs.declared.tasks.Task.{Task}
 use Rattle.sel_gen.specs.declared.tasks.Task.TheVariants.{Derive, Draw, Wrap, Join}
-use Rattle.sel_gen.specs.Sizes.{is_usable, Sizes, size_at, rule_size}
-use Rattle.sel_gen.specs.Made.{word, behind, attribute_by, candidates, leaf_sizes, shared, IsFilled, IsGrown, IsMadeIn, IsMade}
-use Rattle.sel_gen.specs.Growing.{steps, IsSpread, IsDerived, laid, roots_of, AreOver, Finishes, LeaveOne, AreReady, weights, IsGrowing, HasGrown}
+use Rattle.sel_gen.specs.Sizes.{Sizes, size_at, rule_size}
+use Rattle.sel_gen.specs.Made.{word, behind, attribute_by, candidates, leaf_sizes, shared, IsMade}
+use Rattle.sel_gen.specs.Growing.{steps, IsSpread, IsDerived, laid, roots_of, AreOver, Finishes, LeaveOne, weights, IsGrowing, HasGrown}
 use Rattle.sel_gen.proofs.Steps.{LeaveOne-steps, Finishes-steps, AreEnough, AreReady-append, AreReady-steps, weights-append, weights-steps}
 use Rattle.sel_gen.proofs.Levels.{in_levels}
 use Rattle.sel_gen.proofs.Lowered.{rule_size_of}
-use Rattle.sel_gen.proofs.Candidates.{IsCandidate, drawn_candidate, leaf_sum_is, shared_long, shared_sum, shared_enough}
+use Rattle.sel_gen.proofs.Candidates.{IsCandidate, drawn_candidate, leaf_sum_is, shared_sum, shared_enough}
 
 operator_of : (g : Grammar) (op kids : ℕ) → HasOperator g op kids → IsOperatorOf g op kids
 operator_of g op kids (operator, there, arity) = (operator, there, subst (λ a. Takes a kids) (sym arity) refl)

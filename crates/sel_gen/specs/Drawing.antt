@@ -1,5 +1,5 @@
 -- Rules among which one is drawn.
-use Rattle.std.specs.Prelude.{ℕ, suc, ◌-◌, Bool, ◌&&◌, ◌==◌, if◌then◌else◌, Option, None, List, [], ◌∷◌}
+use Rattle.std.specs.Prelude.{ℕ, suc, ◌-◌, Bool, ◌&&◌, ◌==◌, if◌then◌else◌, None, List, [], ◌∷◌}
 use Rattle.sel_grammar.specs.declared.grammar.Rule.{Rule}
 use Rattle.sel_gen.specs.declared.choices.Choice.{Choice}
 use Rattle.sel_gen.specs.Sizes.{is_usable, Sizes, rule_size}

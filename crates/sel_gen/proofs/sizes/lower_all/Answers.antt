@@ -1,7 +1,6 @@
 -- Each turn keeps the sizes derivations', and either leaves them or lowers one.
-use Rattle.std.proofs.Common.{arith, ◌≡◌, ◌≤◌, ◌<◌, ◌+◌, length, slice_get, Some, sym, ap, ◌∙◌, subst, List, ℕ, Bool, true, false, refl}
+use Rattle.std.proofs.Common.{arith, ◌≡◌, ◌<◌, ◌+◌, length, slice_get, Some, sym, ap, ◌∙◌, subst, ℕ, Bool, true, false, refl}
 use Rattle.std.proofs.lemmas.Option.{slice_get_read, slice_get_within}
-use Rattle.std.proofs.lemmas.List.{length-set}
 use Rattle.sel_grammar.specs.declared.grammar.Rule.{Rule}
 use Rattle.sel_gen.specs.Sizes.{Sizes}
 use Rattle.sel_gen.specs.Lowering.{AreUpTo, AreBuilt, total_distance}

@@ -1,15 +1,14 @@
 -- The drawn candidate, its size, and its leaves' sizes.
-use Rattle.std.proofs.Common.{◌≡◌, ◌+◌, ◌-◌, ◌%◌, ◌<◌, length, sym, ap, ◌∙◌, subst, arith, Some}
-use Rattle.std.specs.List.{count_by, sum}
-use Rattle.rand_pcg.specs.Lcg.{Lcg}
+use Rattle.std.proofs.Common.{◌≡◌, ◌-◌, length, sym, ap, ◌∙◌, subst, arith, Some}
+use Rattle.std.specs.List.{count_by}
 use Rattle.sel_grammar.specs.declared.grammar.Rule.{Rule}
 use Rattle.sel_forest.proofs.Matching.{some_same, some_none}
 use Rattle.sel_gen.specs.Sizes.{rule_size}
-use Rattle.sel_gen.specs.Made.{word, behind, candidates, leaf_sizes}
+use Rattle.sel_gen.specs.Made.{word, candidates}
 use Rattle.sel_gen.specs.Drawing.{is_open}
 use Rattle.sel_gen.specs.Growing.{IsSpread}
 use Rattle.sel_gen.proofs.Picks.{count_is}
-use Rattle.sel_gen.proofs.Candidates.{IsPlaced, placed, placed_size, leaf_sum_is}
+use Rattle.sel_gen.proofs.Candidates.{placed, placed_size, leaf_sum_is}
 use Rattle.sel_gen.proofs.grow.Growth.derive.Goals as goal
 
 pub pick-place-requires : goal.pick-place-requires

@@ -3,7 +3,6 @@ use Rattle.std.proofs.Common.{◌<◌, [], ◌∷◌, ℕ, reverse, sym, subst, 
 use Rattle.rand_pcg.specs.Lcg.{Lcg}
 use Rattle.sel_forest.specs.declared.forest.Node.{Node}
 use Rattle.sel_gen.specs.declared.tasks.Task.{Task}
-use Rattle.sel_gen.specs.declared.tasks.Task.TheVariants.{Derive, Draw, Wrap, Join}
 use Rattle.sel_gen.specs.Growing.{IsGrowing, weights}
 use Rattle.sel_gen.proofs.Candidates.{some_candidate}
 use Rattle.sel_gen.proofs.Turns.{drawn, wrapped, joined, derived_by}
