@@ -1,0 +1,13 @@
+pub mod Patterns
+pub mod Sums
+pub mod Lowered
+pub mod Settled
+pub mod Picks
+pub mod Sharing
+pub mod Symbols
+pub mod Steps
+pub mod Levels
+pub mod Candidates
+pub mod Turns
+pub mod Forests
+pub mod OneForest

@@ -1,0 +1,6 @@
+pub mod Sizes
+pub mod Made
+pub mod Lowering
+pub mod Drawing
+pub mod Growing
+pub mod Laws

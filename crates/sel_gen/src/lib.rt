@@ -1,0 +1,15 @@
+//! Forests made from a number.
+#![tactic(auto)]
+
+mod choices;
+mod draw;
+mod forest;
+mod grow;
+pub mod laws;
+mod sizes;
+mod tasks;
+
+pub use forest::make_forest;
+
+#[cfg(test)]
+mod tests;
