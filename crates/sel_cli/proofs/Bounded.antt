@@ -58,7 +58,7 @@ made_parts (Some w) (Some s) (Some r) (Some d) (Some t) (Some z) settings e =
 chosen_bounded : (values : List ℕ → List (List ℕ)) (settings : Settings) → chosen_settings values ≡ Some settings → AreWithinBounds settings
 chosen_bounded values settings e =
     let parts = made_parts (chosen_value workers_bounds (values (codes "workers"))) (chosen_value states_bounds (values (codes "states"))) (chosen_value rows_bounds (values (codes "rows")))
-        (chosen_value seed_bounds (values (codes "seed"))) (chosen_value trees_bounds (values (codes "trees"))) (chosen_value size_bounds (values (codes "size"))) settings e in
+    (chosen_value seed_bounds (values (codes "seed"))) (chosen_value trees_bounds (values (codes "trees"))) (chosen_value size_bounds (values (codes "size"))) settings e in
     record {
       few_states = value_bounded states_bounds (values (codes "states")) settings.states default_state parts.0;
       few_rows = value_bounded rows_bounds (values (codes "rows")) settings.rows default_row parts.1;
@@ -66,6 +66,7 @@ chosen_bounded values settings e =
   where
     default_state : states_bounds.default ≤ states_bounds.greatest
     default_state = omega arith
+
     default_row : rows_bounds.default ≤ rows_bounds.greatest
     default_row = omega arith
 
