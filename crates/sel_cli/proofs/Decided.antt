@@ -1,16 +1,14 @@
 -- What told texts decide comes, or what is excused.
-use Rattle.std.proofs.Common.{◌≡◌, ℕ, ◌<◌, ◌≤◌, Bool, true, false, List, [], ◌∷◌, length, Option, Some, None, is_some, IfSome, ◌&&◌, refl, sym, ap, ◌∙◌, subst, inl, inr, ◌⊎◌, arith}
+use Rattle.std.proofs.Common.{◌≡◌, ℕ, ◌<◌, ◌≤◌, Bool, true, false, List, [], ◌∷◌, length, Option, Some, None, IfSome, ◌&&◌, refl, sym, ap, ◌∙◌, subst, inl, inr, ◌⊎◌, arith}
 use Rattle.std.specs.List.{list_all}
 use Rattle.std.specs.Io.KnownBytes.{append_known}
 use Rattle.sel_base.specs.Causes.{Rose}
 use Rattle.sel_grammar.specs.declared.grammar.Grammar.{Grammar}
 use Rattle.sel_grammar.specs.declared.refusal.GrammarFault.{GrammarFault}
-use Rattle.sel_grammar.specs.Derivations.{Derives}
 use Rattle.sel_grammar_text.specs.GrammarText.{SpellsGrammar, IsGrammarFault}
 use Rattle.sel_grammar_text.proofs.OneAnswer.{one_grammar as grammar_one, one_grammar_fault as grammar_fault_one, not_both}
 use Rattle.sel_normal.specs.NormalFaults.{IsAccepted, IsNormalFault}
 use Rattle.sel_normal.proofs.OneFault.{normal_fault_is_one as normal_fault_one, not_accepted_and_fault}
-use Rattle.sel_forest.specs.declared.forest.Cover.{Cover}
 use Rattle.sel_forest.specs.declared.forest.Tree.{Tree}
 use Rattle.sel_forest.specs.declared.forest.Forest.{Forest}
 use Rattle.sel_forest.specs.declared.refusal.ForestFault.{ForestFault}
@@ -20,7 +18,12 @@ use Rattle.sel_forest.proofs.OneFault.{fault_one as forest_fault_one, not_forest
 use Rattle.sel_forest.proofs.Roots.{plain_one}
 use Rattle.sel_cli.specs.Words.{Job, PrintGrammar, OverForest, Task, forest_name}
 use Rattle.sel_cli.specs.declared.words.Mode.TheVariants as mode
-use Rattle.sel_cli.specs.Output.{AreAnswers, IsTreesAnswer, IsOutput}
+use Rattle.sel_work.specs.declared.answer.Answer.{Answer}
+use Rattle.sel_work.specs.declared.answer.Goal.{Goal}
+use Rattle.sel_work.specs.declared.answer.Goal.TheVariants as goals
+use Rattle.sel_work.specs.Answers.{IsTreeAnswer}
+use Rattle.sel_work.proofs.OneAnswer.{answer_one}
+use Rattle.sel_cli.specs.Output.{AreAnswers, AreAnswered, IsTreesAnswer, IsOutput, is_covered}
 use Rattle.sel_cli.specs.Texts.{Request, IsTold, MayBe, HasGrammarText, HasForestText, AcceptsGrammar, Accepts, IsTooLong, IsRefusedGrammar, RefusesGrammar, RefusesForest, IsWhole, grammar_limit, forest_limit}
 use Rattle.sel_cli.specs.Ends.{Reads, EndsFor, Decides, IsExcused, IsAnswered, finished}
 use Rattle.sel_cli.specs.declared.status.Status.{Status}
@@ -155,31 +158,31 @@ Shows (Some (beside job g long_forest)) bytes status = status ≡ TooBig
 Shows (Some (beside job g (bad_forest fault))) bytes status = status ≡ BadForest fault
 Shows (Some (beside job g (good_forest forest))) bytes status = ShowsOutput job g (Some forest) bytes status
 
--- a tree's answer is a cover, or it is none
-same_answer : (g : Grammar) (tree : Tree) (a b : Option Cover) → IsTreesAnswer g tree a → IsTreesAnswer g tree b → is_some a ≡ is_some b
-same_answer g tree None None p q = refl
-same_answer g tree (Some cover) (Some other) p q = refl
-same_answer g tree None (Some cover) (t, is, none) (u, is', best) =
-    absurd (none best.best (subst (λ x. Derives g best.best g.start x) (plain_one tree u t is' is) best.is_best.derives))
-same_answer g tree (Some cover) None (t, is, best) (u, is', none) =
-    absurd (none best.best (subst (λ x. Derives g best.best g.start x) (plain_one tree t u is is') best.is_best.derives))
+-- a tree has one answer
+same_answer : (g : Grammar) (goal : Goal) (tree : Tree) (a b : Answer) → IsTreesAnswer g goal tree a → IsTreesAnswer g goal tree b → is_covered a ≡ is_covered b
+same_answer g goal tree a b (t, is, answer) (u, is', other) =
+    ap (λ x. is_covered x) (answer_one g goal t a b answer (subst (λ x. IsTreeAnswer g goal x b) (plain_one tree u t is' is) other))
 
-same_covered : (g : Grammar) (trees : List Tree) (a b : List (Option Cover)) → AreAnswers g trees a → AreAnswers g trees b → list_all is_some a ≡ list_all is_some b
-same_covered g [] [] [] p q = refl
-same_covered g [] [] (y ∷ ys) p q = absurd q
-same_covered g [] (x ∷ xs) b p q = absurd p
-same_covered g (t ∷ trees) [] b p q = absurd p
-same_covered g (t ∷ trees) (x ∷ xs) [] p q = absurd q
-same_covered g (t ∷ trees) (x ∷ xs) (y ∷ ys) p q =
-    ap (λ c. c && list_all is_some xs) (same_answer g t x y p.0 q.0) ∙ ap (λ c. is_some y && c) (same_covered g trees xs ys p.1 q.1)
+same_covered : (g : Grammar) (goal : Goal) (trees : List Tree) (a b : List Answer) → AreAnswers g goal trees a → AreAnswers g goal trees b → list_all is_covered a ≡ list_all is_covered b
+same_covered g goal [] [] [] p q = refl
+same_covered g goal [] [] (y ∷ ys) p q = absurd q
+same_covered g goal [] (x ∷ xs) b p q = absurd p
+same_covered g goal (t ∷ trees) [] b p q = absurd p
+same_covered g goal (t ∷ trees) (x ∷ xs) [] p q = absurd q
+same_covered g goal (t ∷ trees) (x ∷ xs) (y ∷ ys) p q =
+    ap (λ c. c && list_all is_covered xs) (same_answer g goal t x y p.0 q.0) ∙ ap (λ c. is_covered y && c) (same_covered g goal trees xs ys p.1 q.1)
+
+same_answered : (g : Grammar) (goal : Goal) (trees : List Tree) (a b : Bool) (bytes other : List ℕ) → AreAnswered g goal trees a bytes → AreAnswered g goal trees b other → a ≡ b
+same_answered g goal trees a b bytes other p q = sym p.all_covered ∙ same_covered g goal trees p.answers q.answers p.answer_trees q.answer_trees ∙ q.all_covered
 
 -- a job's output tells whether every tree is covered
 same_end : (job : Job) (g : Grammar) (forest : Option Forest) (a b : Bool) (bytes other : List ℕ) → IsOutput job g forest a bytes → IsOutput job g forest b other → a ≡ b
 same_end PrintGrammar g None a b bytes other p q = p.1 ∙ sym q.1
 same_end PrintGrammar g (Some forest) a b bytes other p q = absurd p
 same_end (OverForest mode.Cover name) g None a b bytes other p q = absurd p
-same_end (OverForest mode.Cover name) g (Some forest) a b bytes other p q =
-    sym p.all_covered ∙ same_covered g forest.trees p.answers q.answers p.answer_trees q.answer_trees ∙ q.all_covered
+same_end (OverForest mode.Cover name) g (Some forest) a b bytes other p q = same_answered g goals.Cover forest.trees a b bytes other p q
+same_end (OverForest mode.Select name) g None a b bytes other p q = absurd p
+same_end (OverForest mode.Select name) g (Some forest) a b bytes other p q = same_answered g goals.Text forest.trees a b bytes other p q
 same_end (OverForest mode.Print name) g None a b bytes other p q = absurd p
 same_end (OverForest mode.Print name) g (Some forest) a b bytes other p q = p.1 ∙ sym q.1
 

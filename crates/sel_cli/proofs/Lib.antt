@@ -10,5 +10,6 @@ pub mod ClapFaults
 pub mod ClapWords
 pub mod WordExamples
 pub mod Numbers
+pub mod Bounded
 pub mod WordShapes
 pub mod SameParts

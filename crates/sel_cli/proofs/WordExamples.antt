@@ -1,7 +1,7 @@
 -- Lists of words, with what they ask for, by hand.
 use Rattle.std.proofs.Common.{◌≡◌, [], ◌∷◌, Option, Some, None, refl, codes}
 use Rattle.sel_cli.specs.declared.settings.Settings.{Settings}
-use Rattle.sel_cli.specs.declared.words.Mode.TheVariants.{Cover, Print}
+use Rattle.sel_cli.specs.declared.words.Mode.TheVariants.{Cover, Select, Print}
 use Rattle.sel_cli.specs.Words.{Task, PrintGrammar, OverForest, command}
 
 abbrev plain_settings : Settings
@@ -15,6 +15,12 @@ no = None
 
 three_words : command (codes "cover" ∷ codes "g0" ∷ codes "f" ∷ []) ≡ plain plain_settings
 three_words = refl
+
+selected : command (codes "select" ∷ codes "g0" ∷ codes "f" ∷ []) ≡ Some (record { job = OverForest Select (codes "f"); grammar = codes "g0"; settings = plain_settings })
+selected = refl
+
+select_of_two : command (codes "select" ∷ codes "g0" ∷ []) ≡ no
+select_of_two = refl
 
 one_word_option : command (codes "cover" ∷ codes "--workers=4" ∷ codes "g0" ∷ codes "f" ∷ []) ≡ plain plain_settings
 one_word_option = refl

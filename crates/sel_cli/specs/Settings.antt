@@ -1,5 +1,5 @@
 -- The options' values, and what they are where an option isn't given.
-use Rattle.std.specs.Prelude.{ℕ, Bool, ◌&&◌, nat_le, List, [], ◌∷◌, length, Option, Some, None, option_and_then, option_map, codes, if◌then◌else◌}
+use Rattle.std.specs.Prelude.{ℕ, ◌≤◌, Bool, ◌&&◌, nat_le, List, [], ◌∷◌, length, Option, Some, None, option_and_then, option_map, codes, if◌then◌else◌}
 use Rattle.std.specs.List.{list_all}
 use Rattle.std.specs.Char.{is_ascii_digit}
 use Rattle.std.specs.Str.Parse.{digits_value}
@@ -53,3 +53,8 @@ chosen_settings values =
     record { workers = workers; states = states; rows = rows; seed = seed; trees = trees; size = size })
     (chosen_value size_bounds (values (codes "size")))) (chosen_value trees_bounds (values (codes "trees")))) (chosen_value seed_bounds (values (codes "seed"))))
     (chosen_value rows_bounds (values (codes "rows")))) (chosen_value states_bounds (values (codes "states")))) (chosen_value workers_bounds (values (codes "workers")))
+
+-- the automaton's numbers of states and transitions are within their bounds
+pub record AreWithinBounds (settings : Settings) : Type 0 where
+  pub few_states : settings.states ≤ states_bounds.greatest
+  pub few_rows : settings.rows ≤ rows_bounds.greatest

@@ -2,7 +2,7 @@
 use Rattle.std.specs.Prelude.{ℕ, Bool, false, ◌==◌, List, [], ◌∷◌, Option, Some, None, option_and_then, option_map, unwrap_or, bytes_eq, codes, if◌then◌else◌}
 use Rattle.sel_cli.specs.declared.settings.Settings.{Settings}
 use Rattle.sel_cli.specs.declared.words.Mode.{Mode}
-use Rattle.sel_cli.specs.declared.words.Mode.TheVariants.{Cover, Print}
+use Rattle.sel_cli.specs.declared.words.Mode.TheVariants.{Cover, Select, Print}
 use Rattle.sel_cli.specs.Settings.{chosen_settings}
 use Rattle.sel_cli.specs.Split.{Parts, parts_of, values_for}
 
@@ -28,11 +28,15 @@ last_name task = unwrap_or (forest_name task.job) task.grammar
 
 -- the modes that are built
 abbrev pub mode_of : List ℕ → Option Mode
-mode_of word = if bytes_eq word (codes "cover") then Some Cover else (if bytes_eq word (codes "print") then Some Print else None)
+mode_of word =
+    if bytes_eq word (codes "cover") then Some Cover else (
+    if bytes_eq word (codes "select") then Some Select else (
+    if bytes_eq word (codes "print") then Some Print else None))
 
 -- what is done with a grammar alone
 abbrev pub grammar_job : Mode → Option Job
 grammar_job Cover = None
+grammar_job Select = None
 grammar_job Print = Some PrintGrammar
 
 -- what is done, by the words behind the grammar's

@@ -1,19 +1,26 @@
 // The answers of a forest, as text.
-ghost use Rattle.std.specs.Prelude.{◌≡◌, ◌++◌, ◌+◌, ℕ, codes, decimal, OnOk, IfOk, not, ◌==◌};
+ghost use Rattle.std.specs.Prelude.{◌≡◌, ◌++◌, ◌+◌, ◌<◌, ℕ, codes, decimal, OnOk, IfOk, not, ◌==◌};
 ghost use Rattle.std.specs.List.{list_any};
-ghost use Rattle.sel_grammar.specs.Limits.{IsWithinLimits};
-ghost use Rattle.sel_grammar.specs.Chains.{HasNoFreeCycle};
-ghost use Rattle.sel_forest.specs.Valid.{IsValidTree, IsValidForest};
-ghost use Rattle.sel_cli.specs.Output.{AreAnswered, IsWritten, answer_text, cost_text, spaced, has_second_costs};
+ghost use Rattle.sel_forest.specs.Valid.{IsValidForest};
+ghost use Rattle.sel_items.specs.Laws.{IsAcceptedForm};
+ghost use Rattle.sel_cli.specs.Settings.{AreWithinBounds};
+ghost use Rattle.sel_cli.specs.Output.{AreAnswered, answer_text, told_text, cost_line, cost_text, spaced, line_end_behind, is_covered, has_second_costs};
 
 use crate::output::Output;
+use crate::settings::Settings;
 use crate::text::{put, put_number};
+use crate::texts::Accepted;
 use itoa::Buffer;
-use sel_base::{Gate, NoMemory, Pair};
-use sel_forest::{Cover, Forest, Tree};
+use sel_auto::PrivateAutomaton;
+use sel_base::{Gate, NoMemory, Pair, Steps};
+use sel_expand::Expander;
+use sel_forest::Forest;
 use sel_grammar::Grammar;
-use sel_plain::least;
+use sel_items::Automaton;
+use sel_work::{Answer, Goal, answer_tree};
 use std::alloc::Global;
+use std::marker::Brand;
+use std::sync::ledger::{Blank, Ledger};
 
 fn put_cost(text: &mut Vec<u8>, second: bool, cost: Pair) -> Result<(), NoMemory>
     ensures { OnOk result (text.new.items ≡ text.old.items ++ cost_text second cost) }
@@ -24,6 +31,15 @@ fn put_cost(text: &mut Vec<u8>, second: bool, cost: Pair) -> Result<(), NoMemory
         put(text, b",")?;
         put(text, buffer.format(cost.second).as_bytes())?;
     }
+    Ok(())
+}
+
+fn put_cost_line(text: &mut Vec<u8>, second: bool, cost: Pair) -> Result<(), NoMemory>
+    ensures { OnOk result (text.new.items ≡ text.old.items ++ cost_line second cost) }
+{
+    put(text, b" cost ")?;
+    put_cost(text, second, cost)?;
+    put(text, b"\n")?;
     Ok(())
 }
 
@@ -41,29 +57,54 @@ fn put_rules(text: &mut Vec<u8>, rules: &[u16]) -> Result<(), NoMemory>
     Ok(())
 }
 
+// The text of a tree, up to the end of its last line.
+fn put_lines(text: &mut Vec<u8>, lines: &[u8]) -> Result<(), NoMemory>
+    ensures { OnOk result (text.new.items ≡ text.old.items ++ (lines.now ++ line_end_behind lines.now)) }
+{
+    put(text, lines)?;
+    match lines.last() {
+        None | Some(b'\n') => Ok(()),
+        Some(_) => put(text, b"\n"),
+    }
+}
+
+fn put_told(text: &mut Vec<u8>, second: bool, answer: &Answer) -> Result<(), NoMemory>
+    ensures { OnOk result (text.new.items ≡ text.old.items ++ told_text second answer.now) }
+{
+    match answer {
+        Answer::NoCover => put(text, b" no cover\n"),
+        Answer::Cover(cover) => {
+            put_cost_line(text, second, cover.cost)?;
+            put_rules(text, cover.rules.as_slice())?;
+            put(text, b"\n")
+        }
+        Answer::Text { cost, text: lines } => {
+            put_cost_line(text, second, *cost)?;
+            put_lines(text, lines.as_slice())
+        }
+        Answer::TooLong { .. } => put(text, b" too long\n"),
+    }
+}
+
 fn put_answer(
     text: &mut Vec<u8>,
     second: bool,
     number: u64,
-    answer: &Option<Cover>,
+    answer: &Answer,
 ) -> Result<(), NoMemory>
     ensures { OnOk result (text.new.items ≡ text.old.items ++ answer_text second number answer.now) }
 {
     put(text, b"; tree ")?;
     put_number(text, number)?;
+    put_told(text, second, answer)
+}
+
+fn is_covered(answer: &Answer) -> bool
+    ensures { result ≡ is_covered answer.now }
+{
     match answer {
-        None => {
-            put(text, b" no cover\n")?;
-            Ok(())
-        }
-        Some(cover) => {
-            put(text, b" cost ")?;
-            put_cost(text, second, cover.cost)?;
-            put(text, b"\n")?;
-            put_rules(text, cover.rules.as_slice())?;
-            put(text, b"\n")?;
-            Ok(())
-        }
+        Answer::Cover(_) | Answer::Text { .. } => true,
+        Answer::NoCover | Answer::TooLong { .. } => false,
     }
 }
 
@@ -77,44 +118,93 @@ fn has_second_costs(grammar: &Grammar) -> bool
         .any(|rule| rule.cost.second != 0)
 }
 
-// Writes the answer of one tree. Whether the tree is covered.
-fn write_answer(
+// Answers each tree of the forest by the automaton, in order.
+fn answer_by<A: Automaton, L: Ledger, G: Gate>(
+    automaton: &mut A,
     alloc: Global,
-    grammar: &Grammar,
-    second: bool,
-    number: u64,
-    tree: &Tree,
-    text: &mut Vec<u8>,
-) -> Result<bool, NoMemory>
-    requires limits { IsWithinLimits grammar.now }
-    requires free { HasNoFreeCycle grammar.now }
-    requires valid { IsValidTree grammar.now tree.now }
-    ensures { IfOk result (IsWritten grammar.now second number tree.now text.old.items text.new.items) }
-{
-    let answer = least(alloc, grammar, tree)?;
-    put_answer(text, second, number, &answer)?;
-    Ok(answer.is_some())
-}
-
-/// Answers each tree of the forest, in order. The one worker passes the gate round each tree.
-pub fn answer_forest<G: Gate>(
-    alloc: Global,
-    grammar: &Grammar,
+    accepted: &Accepted,
     forest: &Forest,
+    goal: Goal,
+    steps: &mut Steps<L>,
     gate: &G,
 ) -> Result<Output, NoMemory>
-    requires limits { IsWithinLimits grammar.now }
-    requires free { HasNoFreeCycle grammar.now }
-    requires valid { IsValidForest grammar.now forest.now }
-    ensures { IfOk result (λ output. AreAnswered grammar.now forest.now.trees output.covered output.text.items) }
+    requires normal { A.normal automaton.old ≡ accepted.now.normal }
+    requires form { IsAcceptedForm accepted.now.grammar accepted.now.normal }
+    requires valid { IsValidForest accepted.now.grammar forest.now }
+    ensures { IfOk result (λ output. AreAnswered accepted.now.grammar goal forest.now.trees output.covered output.text.items) }
 {
+    let grammar = &accepted.grammar;
+    let normal = &accepted.normal;
     let second = has_second_costs(grammar);
+    let mut expander = Expander::new(alloc);
     let mut text = Vec::new(alloc);
     let mut covered = true;
     'trees: for (index, tree) in forest.trees.as_slice().iter().enumerate() {
         gate.enter(0, index as u32);
-        covered &= write_answer(alloc, grammar, second, index as u64 + 1, tree, &mut text)?;
+        let answer = answer_tree(
+            automaton,
+            &mut expander,
+            alloc,
+            grammar,
+            normal,
+            tree,
+            goal,
+            steps,
+        )?;
+        put_answer(&mut text, second, index as u64 + 1, &answer)?;
+        covered &= is_covered(&answer);
         gate.leave(0, index as u32);
     }
     Ok(Output { text, covered })
+}
+
+// Makes the automaton, and counts its steps over the blank.
+fn answer_counted<L: Ledger, G: Gate>(
+    alloc: Global,
+    accepted: &Accepted,
+    settings: Settings,
+    forest: &Forest,
+    goal: Goal,
+    gate: &G,
+    blank: Blank,
+) -> Result<Output, NoMemory>
+    requires form { IsAcceptedForm accepted.now.grammar accepted.now.normal }
+    requires settings { AreWithinBounds settings }
+    requires valid { IsValidForest accepted.now.grammar forest.now }
+    requires name { blank.name ≡ L.name }
+    requires parts { blank.parts ≡ L.parts }
+    requires one { 0 < blank.parts }
+    ensures { IfOk result (λ output. AreAnswered accepted.now.grammar goal forest.now.trees output.covered output.text.items) }
+{
+    let states = settings.states as u32;
+    let rows = settings.rows as u32;
+    let mut automaton = PrivateAutomaton::new(alloc, &accepted.normal, states, rows)?;
+    let mut steps = Steps::<L>::new(blank);
+    answer_by(
+        &mut automaton,
+        alloc,
+        accepted,
+        forest,
+        goal,
+        &mut steps,
+        gate,
+    )
+}
+
+/// Answers each tree of the forest, in order, by one automaton for them all, with as many states and
+/// transitions as the settings say. The one worker passes the gate round each tree.
+pub fn answer_forest<G: Gate>(
+    alloc: Global,
+    accepted: &Accepted,
+    settings: Settings,
+    forest: &Forest,
+    goal: Goal,
+    gate: &G,
+) -> Result<Output, NoMemory>
+    requires form { IsAcceptedForm accepted.now.grammar accepted.now.normal }
+    requires settings { AreWithinBounds settings }
+    requires valid { IsValidForest accepted.now.grammar forest.now }
+    ensures { IfOk result (λ output. AreAnswered accepted.now.grammar goal forest.now.trees output.covered output.text.items) }
+{
+    answer_counted::<Brand, G>(alloc, accepted, settings, forest, goal, gate, Blank::new(1))
 }

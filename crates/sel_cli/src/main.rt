@@ -1,5 +1,5 @@
-//! Reads a grammar and a forest by name, and writes the cheapest cover of each tree, or the grammar or
-//! the forest in print.
+//! Reads a grammar and a forest by name, and writes the cheapest cover of each tree, the text that it
+//! expands to, or the grammar or the forest in print.
 #![tactic(auto)]
 
 mod answers;
@@ -51,5 +51,7 @@ fn main(rt: HostRuntime) -> ExitCode {
 mod tests;
 #[cfg(test)]
 mod tests_grammars;
+#[cfg(test)]
+mod tests_select;
 #[cfg(test)]
 mod tests_words;

@@ -1,20 +1,23 @@
 // What a job writes.
 ghost use Rattle.std.specs.Prelude.{◌≡◌, ℕ, List, Some, None, IfOk};
-ghost use Rattle.sel_grammar.specs.Limits.{IsWithinLimits};
-ghost use Rattle.sel_grammar.specs.Chains.{HasNoFreeCycle};
 ghost use Rattle.sel_forest.specs.Valid.{IsValidForest};
+ghost use Rattle.sel_items.specs.Laws.{IsAcceptedForm};
+ghost use Rattle.sel_cli.specs.Settings.{AreWithinBounds};
 ghost use Rattle.sel_cli.specs.Words.{PrintGrammar, OverForest};
 ghost use Rattle.sel_cli.specs.Output.{IsOutput};
 
 use crate::answers::answer_forest;
+use crate::settings::Settings;
+use crate::texts::Accepted;
 use crate::words::Mode;
 use sel_base::{Gate, NoMemory};
 use sel_forest::{Forest, print_forest};
 use sel_grammar::Grammar;
 use sel_grammar_text::print_grammar;
+use sel_work::Goal;
 use std::alloc::Global;
 
-/// The bytes that are written, and whether every tree is covered.
+/// The bytes that are written, and whether every tree is covered, and its text not too long.
 #[derive(Drop)]
 pub struct Output {
     pub text: Vec<u8>,
@@ -47,17 +50,19 @@ fn printed_forest(alloc: Global, grammar: &Grammar, forest: &Forest) -> Result<O
 pub fn forest_output<G: Gate>(
     alloc: Global,
     mode: Mode,
-    grammar: &Grammar,
+    accepted: &Accepted,
+    settings: Settings,
     forest: &Forest,
     gate: &G,
 ) -> Result<Output, NoMemory>
-    requires limits { IsWithinLimits grammar.now }
-    requires free { HasNoFreeCycle grammar.now }
-    requires valid { IsValidForest grammar.now forest.now }
-    ensures { (name : List ℕ) → IfOk result (λ output. IsOutput (OverForest mode name) grammar.now (Some forest.now) output.covered output.text.items) }
+    requires form { IsAcceptedForm accepted.now.grammar accepted.now.normal }
+    requires settings { AreWithinBounds settings }
+    requires valid { IsValidForest accepted.now.grammar forest.now }
+    ensures { (name : List ℕ) → IfOk result (λ output. IsOutput (OverForest mode name) accepted.now.grammar (Some forest.now) output.covered output.text.items) }
 {
     match mode {
-        Mode::Cover => answer_forest(alloc, grammar, forest, gate),
-        Mode::Print => printed_forest(alloc, grammar, forest),
+        Mode::Cover => answer_forest(alloc, accepted, settings, forest, Goal::Cover, gate),
+        Mode::Select => answer_forest(alloc, accepted, settings, forest, Goal::Text, gate),
+        Mode::Print => printed_forest(alloc, &accepted.grammar, forest),
     }
 }

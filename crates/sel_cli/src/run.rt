@@ -2,13 +2,13 @@
 ghost use Rattle.std.specs.Prelude.{◌≡◌, ◌≢◌, ◌≤◌, ◌⊎◌, [], List, ℕ, Option, None, Some, map, string_bytes, false};
 ghost use Rattle.std.specs.Io.KnownBytes.{append_known};
 ghost use Rattle.sel_base.specs.Causes.{Rose};
-ghost use Rattle.sel_grammar.specs.Limits.{IsWithinLimits};
-ghost use Rattle.sel_grammar.specs.Chains.{HasNoFreeCycle};
 ghost use Rattle.sel_grammar.specs.declared.grammar.Grammar.{Grammar as AnyGrammar};
 ghost use Rattle.sel_forest.specs.Valid.{IsValidForest};
 ghost use Rattle.sel_forest.specs.declared.forest.Forest.{Forest as AnyForest};
+ghost use Rattle.sel_items.specs.Laws.{IsAcceptedForm};
 ghost use Rattle.sel_cli.specs.declared.status.Status.{Status as AnyStatus};
 ghost use Rattle.sel_cli.specs.Words.{Task as AnyTask, PrintGrammar, OverForest, command};
+ghost use Rattle.sel_cli.specs.Settings.{AreWithinBounds};
 ghost use Rattle.sel_cli.specs.Names.{task_for};
 ghost use Rattle.sel_cli.specs.Texts.{IsTold, MayBe, AcceptsGrammar, Accepts};
 ghost use Rattle.sel_cli.specs.Ends.{EndsFor, WritesJobFor, Ending, Decides, IsExcused, IsAnswered, IsFrontOf, ReadsFor};
@@ -18,8 +18,9 @@ ghost use Rattle.sel_cli.specs.Lines.{status_line};
 use crate::lines::tell;
 use crate::output::{Output, forest_output, grammar_output};
 use crate::report::Report;
+use crate::settings::Settings;
 use crate::status::Status;
-use crate::texts::{accept_forest, accept_grammar};
+use crate::texts::{Accepted, accept_forest, accept_grammar};
 use crate::words::{Command, Job, Mode, read_words};
 use sel_base::{Gate, NoMemory, Shelf, Sink, SinkFault, write_all_of};
 use sel_forest::Forest;
@@ -74,20 +75,21 @@ fn print<K: Sink>(alloc: Global, grammar: &Grammar, out: &mut K) -> Status
 fn answer<K: Sink, G: Gate>(
     alloc: Global,
     mode: Mode,
-    grammar: &Grammar,
+    accepted: &Accepted,
+    settings: Settings,
     forest: &Forest,
     out: &mut K,
     gate: &G,
 ) -> Status
-    requires limits { IsWithinLimits grammar.now }
-    requires free { HasNoFreeCycle grammar.now }
-    requires valid { IsValidForest grammar.now forest.now }
-    ensures ends { (name : List ℕ) → (bytes : List ℕ) × WritesJobFor (OverForest mode name) grammar.now (Some forest.now) (K.faults out.old) (K.faults out.new) bytes result
+    requires form { IsAcceptedForm accepted.now.grammar accepted.now.normal }
+    requires settings { AreWithinBounds settings }
+    requires valid { IsValidForest accepted.now.grammar forest.now }
+    ensures ends { (name : List ℕ) → (bytes : List ℕ) × WritesJobFor (OverForest mode name) accepted.now.grammar (Some forest.now) (K.faults out.old) (K.faults out.new) bytes result
         × (K.taken out.new ≡ append_known (K.taken out.old) bytes) }
     ensures later { K.faults out.old ≤ K.faults out.new }
     ensures quiet { (result ≢ Status.WriteFault) → K.faults out.new ≡ K.faults out.old }
 {
-    match forest_output(alloc, mode, grammar, forest, gate) {
+    match forest_output(alloc, mode, accepted, settings, forest, gate) {
         Ok(output) => write_output(out, &output),
         Err(NoMemory) => Status::NoMemory,
     }
@@ -99,13 +101,14 @@ fn serve_forest<'a, S: Shelf, K: Sink, G: Gate>(
     command: Command<'a>,
     mode: Mode,
     name: &'a str,
-    grammar: &Grammar,
+    accepted: &Accepted,
     shelf: &mut S,
     out: &mut K,
     gate: &G,
 ) -> Ended<'a>
-    requires grammar { AcceptsGrammar MayBe (record { wanted = Some (task_for command); held = S.held shelf.old }) (task_for command) grammar.now }
-    requires limits { IsWithinLimits grammar.now }
+    requires grammar { AcceptsGrammar MayBe (record { wanted = Some (task_for command); held = S.held shelf.old }) (task_for command) accepted.now.grammar }
+    requires form { IsAcceptedForm accepted.now.grammar accepted.now.normal }
+    requires settings { AreWithinBounds command.settings }
     requires job { (task_for command).job ≡ OverForest mode name.now }
     ensures ends { (bytes : List ℕ)
         × EndsFor (record { wanted = Some (task_for command.entry); held = S.held shelf.old })
@@ -119,9 +122,10 @@ fn serve_forest<'a, S: Shelf, K: Sink, G: Gate>(
     ensures out_quiet { (result.status ≢ Status.WriteFault) → K.faults out.new ≡ K.faults out.old }
     ensures read { ReadsFor (Some (task_for command.entry)) (record { before = S.faults shelf.old; after = S.faults shelf.new; last = S.last shelf.new }) result.status }
 {
-    match accept_forest(alloc, shelf, command, name, grammar) {
+    let settings = command.settings;
+    match accept_forest(alloc, shelf, command, name, &accepted.grammar) {
         Ok(forest) => Ended {
-            status: answer(alloc, mode, grammar, &forest, out, gate),
+            status: answer(alloc, mode, accepted, settings, &forest, out, gate),
             name,
         },
         Err(status) => Ended { status, name },
@@ -136,6 +140,7 @@ fn serve<'a, S: Shelf, K: Sink, G: Gate>(
     out: &mut K,
     gate: &G,
 ) -> Ended<'a>
+    requires settings { AreWithinBounds command.settings }
     ensures ends { (bytes : List ℕ)
         × EndsFor (record { wanted = Some (task_for command.entry); held = S.held shelf.old })
         (record { before = S.faults shelf.old; after = S.faults shelf.new; last = S.last shelf.new })
@@ -148,8 +153,8 @@ fn serve<'a, S: Shelf, K: Sink, G: Gate>(
     ensures out_quiet { (result.status ≢ Status.WriteFault) → K.faults out.new ≡ K.faults out.old }
     ensures read { ReadsFor (Some (task_for command.entry)) (record { before = S.faults shelf.old; after = S.faults shelf.new; last = S.last shelf.new }) result.status }
 {
-    let grammar = match accept_grammar(alloc, shelf, command) {
-        Ok(grammar) => grammar,
+    let accepted = match accept_grammar(alloc, shelf, command) {
+        Ok(accepted) => accepted,
         Err(status) => {
             return Ended {
                 status,
@@ -159,11 +164,11 @@ fn serve<'a, S: Shelf, K: Sink, G: Gate>(
     };
     match command.job {
         Job::PrintGrammar => Ended {
-            status: print(alloc, &grammar, out),
+            status: print(alloc, &accepted.grammar, out),
             name: command.grammar,
         },
         Job::OverForest(mode, name) => {
-            serve_forest(alloc, command, mode, name, &grammar, shelf, out, gate)
+            serve_forest(alloc, command, mode, name, &accepted, shelf, out, gate)
         }
     }
 }
@@ -195,10 +200,10 @@ fn obey<'a, S: Shelf, K: Sink, G: Gate>(
     Ended { status, name: "" }
 }
 
-/// Does what the words ask for (`cover GRAMMAR FOREST`, `print GRAMMAR` or `print GRAMMAR FOREST`, and
-/// options in any place, without the program's name): reads the texts from the shelf, writes the
-/// cheapest cover of each tree, or the grammar or the forest in print, to `out`, and says how it ended.
-/// The status's line goes to `err`.
+/// Does what the words ask for (`cover GRAMMAR FOREST`, `select GRAMMAR FOREST`, `print GRAMMAR` or
+/// `print GRAMMAR FOREST`, and options in any place, without the program's name): reads the texts from
+/// the shelf, writes the cheapest cover of each tree, the text that it expands to, or the grammar or the
+/// forest in print, to `out`, and says how it ended. The status's line goes to `err`.
 pub fn run<S: Shelf, K: Sink, E: Sink, G: Gate, Rt: Threads + Sync>(
     _rt: &Rt,
     alloc: Global,

@@ -8,7 +8,7 @@ use sel_grammar::GrammarFault;
 /// How a run ended.
 #[derive(Clone, Copy, Debug, PartialEq, Eq)]
 pub enum Status {
-    /// All was read and written, and every tree is covered.
+    /// All was read and written, every tree is covered, and no text is too long.
     Done,
     /// The words are no command.
     Usage,
@@ -21,7 +21,7 @@ pub enum Status {
     /// A write failed.
     WriteFault,
     NoMemory,
-    /// All was written, and some tree has no cover.
+    /// All was written, and some tree has no cover or a text that is too long.
     Uncovered,
 }
 

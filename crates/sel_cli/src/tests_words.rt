@@ -49,6 +49,7 @@ fn parts_of<'a>(job: Job<'a>) -> (&'a str, &'a str) {
         Job::PrintGrammar => ("print", ""),
         Job::OverForest(Mode::Print, forest) => ("print", forest),
         Job::OverForest(Mode::Cover, forest) => ("cover", forest),
+        Job::OverForest(Mode::Select, forest) => ("select", forest),
     }
 }
 
@@ -115,6 +116,12 @@ fn options_stand_in_any_place_and_plain_words_in_order(rt: HostRuntime) -> Resul
         Case {
             words: "--size 2 --trees=3 --seed 4 --rows=5 --states 6 --workers=7 cover g f",
             settings: [7, 6, 5, 4, 3, 2],
+            ..PLAIN
+        },
+        Case {
+            words: "select g --states=16 f",
+            done: "select",
+            settings: [4, 16, 65_536, 1, 1_000, 64],
             ..PLAIN
         },
         // A grammar or a forest in print.
@@ -227,10 +234,13 @@ fn words_that_are_no_command(rt: HostRuntime) -> Result<(), Fail> {
         "covers g f",
         "Cover g f",
         " g f",
-        "select g f",
+        "Select g f",
         "summary g f",
         "make g",
-        // Too few or too many texts in print.
+        // Too few or too many texts where texts of covers are asked for, and in print.
+        "select",
+        "select g",
+        "select g f f",
         "print",
         "print g f f",
         // A shipped grammar, behind `--` too.
@@ -307,6 +317,8 @@ fn a_command_runs_and_other_words_are_refused(rt: HostRuntime) -> Result<(), Fai
         "cover g0 f",
         "cover --workers=4 g0 f",
         "cover g0 -- f",
+        "select g0 f",
+        "select --rows=0 g0 f",
         "print g0",
         "print g0 f",
         "print -- g0 f",

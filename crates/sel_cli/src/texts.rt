@@ -1,10 +1,9 @@
 // The two texts, read and accepted.
 ghost use Rattle.std.specs.Prelude.{◌≡◌, ◌≤◌, Some, length, IfOk, IfErr, IsErrOf, OnOk};
 ghost use Rattle.sel_grammar.specs.Limits.{IsWithinLimits};
-ghost use Rattle.sel_grammar.specs.Lawful.{IsLawful};
 ghost use Rattle.sel_grammar_text.specs.GrammarText.{SpellsGrammar};
-ghost use Rattle.sel_normal.specs.NormalFaults.{IsAccepted};
 ghost use Rattle.sel_forest.specs.Valid.{IsValidForest};
+ghost use Rattle.sel_items.specs.Laws.{IsAcceptedForm};
 ghost use Rattle.sel_cli.specs.Names.{task_for};
 ghost use Rattle.sel_cli.specs.Texts.{MayBe, AcceptsGrammar, AcceptsForest, grammar_limit};
 ghost use Rattle.sel_cli.specs.Ends.{StopsFor, WasRead, ReadsFor};
@@ -50,29 +49,35 @@ fn fetch<S: Shelf>(
     }
 }
 
+/// A grammar that is accepted, and its normal form.
+#[derive(Drop)]
+pub struct Accepted {
+    pub grammar: Grammar,
+    pub normal: Normal,
+}
+
 /// The grammar that the bytes spell, whose normal form nothing is wrong with.
-fn judged(alloc: Global, bytes: &[u8]) -> Result<Grammar, GrammarRefusal>
+fn judged(alloc: Global, bytes: &[u8]) -> Result<Accepted, GrammarRefusal>
     requires short { length bytes.now ≤ grammar_limit }
-    ensures spelled { IfOk result (λ grammar. SpellsGrammar bytes.now grammar) }
-    ensures lawful { IfOk result (λ grammar. IsLawful grammar) }
-    ensures normal { IfOk result (λ grammar. IsAccepted grammar) }
+    ensures spelled { IfOk result (λ accepted. SpellsGrammar bytes.now accepted.grammar) }
+    ensures form { IfOk result (λ accepted. IsAcceptedForm accepted.grammar accepted.normal) }
     ensures refused { IfErr result (JudgedFor bytes.now) }
 {
     let grammar = read_grammar(alloc, bytes)?;
     match Normal::of(alloc, &grammar) {
-        Ok(_) => Ok(grammar),
+        Ok(normal) => Ok(Accepted { grammar, normal }),
         Err(refusal) => Err(refusal),
     }
 }
 
-/// The grammar that the text of its name spells.
+/// The grammar that the text of its name spells, where it is accepted.
 pub fn accept_grammar<S: Shelf>(
     alloc: Global,
     shelf: &mut S,
     command: Command<'_>,
-) -> Result<Grammar, Status>
-    ensures accepted { IfOk result (AcceptsGrammar MayBe (record { wanted = Some (task_for command.entry); held = S.held shelf.old }) (task_for command.entry)) }
-    ensures lawful { IfOk result (λ grammar. IsLawful grammar) }
+) -> Result<Accepted, Status>
+    ensures accepted { IfOk result (λ accepted. AcceptsGrammar MayBe (record { wanted = Some (task_for command.entry); held = S.held shelf.old }) (task_for command.entry) accepted.grammar) }
+    ensures form { IfOk result (λ accepted. IsAcceptedForm accepted.grammar accepted.normal) }
     ensures refused { IfErr result (StopsFor (record { wanted = Some (task_for command.entry); held = S.held shelf.old })
         (record { before = S.faults shelf.old; after = S.faults shelf.new; last = S.last shelf.new }) command.entry.grammar.now) }
     ensures unchanged { S.held shelf.new ≡ S.held shelf.old }
@@ -86,7 +91,7 @@ pub fn accept_grammar<S: Shelf>(
         Err(status) => return Err(status),
     };
     match judged(alloc, &text) {
-        Ok(grammar) => Ok(grammar),
+        Ok(accepted) => Ok(accepted),
         Err(GrammarRefusal::Fault(fault)) => Err(Status::BadGrammar(fault)),
         Err(GrammarRefusal::NoMemory) => Err(Status::NoMemory),
     }

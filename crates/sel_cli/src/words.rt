@@ -16,6 +16,8 @@ use std::alloc::Global;
 pub enum Mode {
     /// The cheapest cover of each tree.
     Cover,
+    /// The text that the cheapest cover of each tree expands to.
+    Select,
     /// The forest itself.
     Print,
 }
@@ -40,6 +42,7 @@ fn mode_of(word: &str) -> Option<Mode>
 {
     match word {
         "cover" => Some(Mode::Cover),
+        "select" => Some(Mode::Select),
         "print" => Some(Mode::Print),
         _ => None,
     }
@@ -50,7 +53,7 @@ fn job_of<'a>(mode: Mode, words: &[&'a str]) -> Option<Job<'a>>
 {
     match words {
         [] => match mode {
-            Mode::Cover => None,
+            Mode::Cover | Mode::Select => None,
             Mode::Print => Some(Job::PrintGrammar),
         },
         [forest] => Some(Job::OverForest(mode, forest)),
@@ -93,8 +96,9 @@ fn asked_by<'a>(found: &ArgMatches<'a>) -> Option<Command<'a>>
     command_of(settings, found.get_raw("plain")?)
 }
 
-/// What the words ask for, or None where they are no command: `cover GRAMMAR FOREST`, `print GRAMMAR`
-/// or `print GRAMMAR FOREST`, and among them `--NAME VALUE` or `--NAME=VALUE`. Behind a word `--` no word is an option.
+/// What the words ask for, or None where they are no command: `cover GRAMMAR FOREST`, `select GRAMMAR FOREST`,
+/// `print GRAMMAR` or `print GRAMMAR FOREST`, and among them `--NAME VALUE` or `--NAME=VALUE`. Behind a word `--`
+/// no word is an option.
 pub fn read_words<'a>(alloc: Global, words: &'a [String]) -> Result<Option<Command<'a>>, NoMemory>
     ensures { IfOk result (λ answer. option_map task_for answer ≡ command (map string_bytes words.now)) }
 {

@@ -6,5 +6,5 @@ use Rattle.sel_cli.proofs.output.forest_output.Goals as goal
 
 pub returns-in-Print : goal.returns-in-Print
 returns-in-Print g c =
-    let P : Mode → Type 0 = λ m. (name : List ℕ) → IfOk c.printed_forest.result (λ output. IsOutput (OverForest m name) c.args.grammar.now (Some c.args.forest.now) output.covered output.text.items) in
+    let P : Mode → Type 0 = λ m. (name : List ℕ) → IfOk c.printed_forest.result (λ output. IsOutput (OverForest m name) c.args.accepted.now.grammar (Some c.args.forest.now) output.covered output.text.items) in
     subst P (sym c.in-Print.is) c.printed_forest.ensures

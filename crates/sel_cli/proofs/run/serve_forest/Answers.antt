@@ -13,4 +13,4 @@ pub returns-in-Ok-clause-read : goal.returns-in-Ok-clause-read
 returns-in-Ok-clause-read g c =
     let done = c.answer.ensures.ends c.args.name.now in
     done_reads (task_for c.args.command) (record { before = g.S.Shelf.faults c.args.shelf.now; after = g.S.Shelf.faults c.accept_forest.new.shelf; last = g.S.Shelf.last c.accept_forest.new.shelf })
-    c.args.name.now (OverForest c.args.mode c.args.name.now) c.args.grammar.now (Some c.in-Ok.forest) (g.K.Sink.faults c.args.out.now) (g.K.Sink.faults c.answer.new.out) done.0 c.answer.result (ap (λ job. unwrap_or (forest_name job) c.args.command.grammar.now) c.requires.job) c.in-Ok.ensures.read done.1
+    c.args.name.now (OverForest c.args.mode c.args.name.now) c.args.accepted.now.grammar (Some c.in-Ok.forest) (g.K.Sink.faults c.args.out.now) (g.K.Sink.faults c.answer.new.out) done.0 c.answer.result (ap (λ job. unwrap_or (forest_name job) c.args.command.grammar.now) c.requires.job) c.in-Ok.ensures.read done.1
