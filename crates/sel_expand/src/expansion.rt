@@ -75,7 +75,8 @@ fn flattened(alloc: Global, text: &[Emitted], length: usize) -> Result<List<u8>,
     Ok(List::from_vec(bytes))
 }
 
-/// Room to expand covers in, which is kept from tree to tree.
+/// Room to expand covers in, which is kept from tree to tree, and also after want of memory. It holds
+/// nothing that another text rests on: temporaries begin at `t1` in each.
 #[derive(Debug, Drop)]
 pub struct Expander {
     goals: Vec<Goal>,
@@ -178,7 +179,9 @@ impl Expander {
     }
 }
 
-/// The text that the cover's derivation expands to, or that it is too long.
+/// The text that the cover's derivation expands to, or `TooLong` exactly where that has more than
+/// `LONGEST_TEXT` bytes. The cover's rules are the list of a derivation of the tree from the start
+/// symbol, as `check_cover` tells. Its cost isn't read.
 ///
 /// The kids of a derivation are emitted first, from left to right, and then its rule. A template
 /// whose last byte is a line end is an instruction: what it prints is added to the lines, and where

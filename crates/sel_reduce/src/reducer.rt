@@ -21,10 +21,14 @@ use sel_normal::Normal;
 use std::alloc::Global;
 
 /// The cost and the rule list of the tree's best derivation from the start symbol, or None where
-/// nothing derives it. The labels are those of the tree's nodes, and no tree was begun since they were
-/// given. It goes from the root down by a stack of goals (a node and a normal nonterminal): the first
-/// rule of the goal's entry is the next of the list, a helper's rule only leads on. The cost is the sum
-/// of the rules', since item sets tell relative costs alone.
+/// nothing derives it. `normal` is the normal form of the grammar and of the automaton. The labels are
+/// those of the tree's nodes, and no tree was begun since they were given.
+///
+/// It goes from the root down by a stack of goals (a node and a normal nonterminal), as a BURG reducer
+/// does (BURG manual, lburg): the first rule of a goal's entry is the next of the list, and a helper's
+/// rule only leads on. The cost is the sum of the rules', since item sets tell relative costs alone. It
+/// takes time for each rule of the list and each operator of its pattern, and memory for the list and
+/// the goals that are left.
 pub fn reduce<A: Automaton>(
     automaton: &mut A,
     alloc: Global,
@@ -53,7 +57,8 @@ pub fn reduce<A: Automaton>(
         at: nodes.len() - 1,
         nonterminal: grammar.start,
     };
-    if entry_for(automaton, labels, root).is_none() {
+    let first = entry_for(automaton, labels, root);
+    if first.is_none() {
         return Ok(None);
     }
     let mut walk = Walk::new(alloc, root)?;

@@ -1,4 +1,4 @@
-// The walk from a tree's root down, by a stack of goals.
+// A walk over a tree from its root down, by a stack of goals.
 ghost use Rattle.std.specs.Prelude.{◌≡◌, ◌≤◌, ◌<◌, ◌++◌, ◌∷◌, [], Some, ℕ, length, reverse, IfOk};
 ghost use Rattle.sel_grammar.specs.Costs.{◌⊕◌, no_cost, paid};
 ghost use Rattle.sel_grammar.specs.SmallCosts.{IsSmall};

@@ -15,8 +15,8 @@ use Rattle.sel_reduce.proofs.reducer.reduce.Goals as goal
 pub overflow_sub-root : goal.overflow_sub-root
 overflow_sub-root g c = some_node c.as_slice-nodes.result.now (c.requires.tree).plain (c.as_slice-nodes.ensures ∙ (c.requires.tree).postorder)
 
-pub entry_for-requires-clause-items : goal.entry_for-requires-clause-items
-entry_for-requires-clause-items g c =
+pub entry_for-first-requires-clause-items : goal.entry_for-first-requires-clause-items
+entry_for-first-requires-clause-items g c =
     let nodes = c.as_slice-nodes.result.now in
     let t = c.requires.tree in
     root_items c.args.grammar.now c.args.normal.now nodes t.plain c.requires.form (c.as_slice-nodes.ensures ∙ t.postorder) (g.A.Automaton.means c.args.automaton.now) c.args.labels.now.of
@@ -27,43 +27,43 @@ returns-then-is_none-clause-answer g c = λ t postorder.
     let nodes = c.as_slice-nodes.result.now in
     root_none c.args.grammar.now c.args.normal.now nodes t c.requires.form (c.as_slice-nodes.ensures ∙ postorder) (g.A.Automaton.means c.args.automaton.now) c.args.labels.now.of
     (subst (λ x. LabelsMean c.args.grammar.now (g.A.Automaton.means c.args.automaton.now) x c.args.labels.now.of) (sym c.as_slice-nodes.ensures) (c.requires.labelled).mean)
-    (λ i m. none_of c.entry_for.result c.is_none.result c.is_none.ensures c.if-is_none.true ∙ c.entry_for.ensures.entry i m)
+    (λ i m. none_of c.entry_for-first.result c.is_none.result c.is_none.ensures c.if-is_none.true ∙ c.entry_for-first.ensures.entry i m)
 
 pub loop-goal-init : goal.loop-goal-init
 loop-goal-init g c =
     let nodes = c.as_slice-nodes.result.now in
     let t = c.requires.tree in
     let root : Goal = record { at = length nodes - 1; nonterminal = c.args.grammar.now.start } in
-    let (item, is) = some_of c.entry_for.result c.is_none.result c.is_none.ensures c.if-is_none.false in
+    let (item, is) = some_of c.entry_for-first.result c.is_none.result c.is_none.ensures c.if-is_none.false in
     let half =
     root_half c.args.grammar.now c.args.normal.now nodes t.plain c.requires.form (c.as_slice-nodes.ensures ∙ t.postorder) (g.A.Automaton.means c.args.automaton.now) c.args.labels.now.of
     (subst (λ x. LabelsMean c.args.grammar.now (g.A.Automaton.means c.args.automaton.now) x c.args.labels.now.of) (sym c.as_slice-nodes.ensures) (c.requires.labelled).mean)
-    t.small item (λ i m. is ∙ c.entry_for.ensures.entry i m) in
+    t.small item (λ i m. is ∙ c.entry_for-first.ensures.entry i m) in
     record {
       half = subst (λ r. IsHalfReduced c.args.grammar.now nodes root r c.in_ok-walk.walk.cost c.in_ok-walk.walk.goals.items) (sym c.in_ok-walk.ensures.rules)
           (subst (λ x. IsHalfReduced c.args.grammar.now nodes root [] x c.in_ok-walk.walk.goals.items) (sym c.in_ok-walk.ensures.cost)
           (subst (λ x. IsHalfReduced c.args.grammar.now nodes root [] no_cost x) (sym c.in_ok-walk.ensures.goals) half));
-      normal = c.entry_for.ensures.normal;
-      keeps = c.entry_for.ensures.keeps;
-      plain = c.entry_for.ensures.plain;
-      plain_labels = c.entry_for.ensures.plain_labels;
-      same_asked = c.entry_for.ensures.same_asked;
-      same_known = c.entry_for.ensures.same_known;
-      same_held = c.entry_for.ensures.same_held;
-      same_used_up = c.entry_for.ensures.same_used_up;
-      same_row_full = c.entry_for.ensures.same_row_full;
+      normal = c.entry_for-first.ensures.normal;
+      keeps = c.entry_for-first.ensures.keeps;
+      plain = c.entry_for-first.ensures.plain;
+      plain_labels = c.entry_for-first.ensures.plain_labels;
+      same_asked = c.entry_for-first.ensures.same_asked;
+      same_known = c.entry_for-first.ensures.same_known;
+      same_held = c.entry_for-first.ensures.same_held;
+      same_used_up = c.entry_for-first.ensures.same_used_up;
+      same_row_full = c.entry_for-first.ensures.same_row_full;
     }
 
-pub entry_for-requires-in-Some-clause-items : goal.entry_for-requires-in-Some-clause-items
-entry_for-requires-in-Some-clause-items g c =
+pub entry_for-requires-clause-items : goal.entry_for-requires-clause-items
+entry_for-requires-clause-items g c =
     let nodes = c.as_slice-nodes.result.now in
     let w = c.loop-goal.walk in
     turn_items c.args.grammar.now c.args.normal.now nodes c.requires.form (record { at = length nodes - 1; nonterminal = c.args.grammar.now.start }) c.in-Some.goal w.rules.items w.cost w.goals.items c.pop.new.self.items
     c.loop-goal.invariant.half c.in-Some.ensures.items
     c.args.tree.now.nodes c.as_slice-nodes.ensures (g.A.Automaton.means c.args.automaton.now) (g.A.Automaton.means c.loop-goal.automaton) c.args.labels.now.of (c.requires.labelled).mean c.loop-goal.invariant.keeps
 
-pub entry_for-requires-in-Some-clause-nonterminal : goal.entry_for-requires-in-Some-clause-nonterminal
-entry_for-requires-in-Some-clause-nonterminal g c =
+pub entry_for-requires-clause-nonterminal : goal.entry_for-requires-clause-nonterminal
+entry_for-requires-clause-nonterminal g c =
     let nodes = c.as_slice-nodes.result.now in
     let w = c.loop-goal.walk in
     subst (λ (n : NormalForm). c.in-Some.goal.nonterminal < n.nonterminals) (sym (c.loop-goal.invariant.normal ∙ c.requires.normal))
@@ -126,7 +126,7 @@ loop-goal-preserved g c =
     let nodes = c.as_slice-nodes.result.now in
     let w = c.loop-goal.walk in
     let i = c.loop-goal.invariant in
-    let e = c.entry_for-in-Some.ensures in
+    let e = c.entry_for.ensures in
     let a = g.A.Automaton in
     record {
       half = turn_half c.args.grammar.now c.args.normal.now nodes c.requires.form (record { at = length nodes - 1; nonterminal = c.args.grammar.now.start }) c.in-Some.goal w.rules.items w.cost w.goals.items c.pop.new.self.items
@@ -138,9 +138,9 @@ loop-goal-preserved g c =
       keeps = λ l x m. e.keeps l x (i.keeps l x m);
       plain = λ l x p m. i.plain l x p (e.plain l x p m);
       plain_labels = e.plain_labels ∙ i.plain_labels;
-      same_asked = AreSame-trans (a.asked c.args.automaton.now) (a.asked c.loop-goal.automaton) (a.asked c.entry_for-in-Some.new.automaton) i.same_asked e.same_asked;
-      same_known = AreSame-trans (a.known c.args.automaton.now) (a.known c.loop-goal.automaton) (a.known c.entry_for-in-Some.new.automaton) i.same_known e.same_known;
-      same_held = AreSame-trans (a.held c.args.automaton.now) (a.held c.loop-goal.automaton) (a.held c.entry_for-in-Some.new.automaton) i.same_held e.same_held;
+      same_asked = AreSame-trans (a.asked c.args.automaton.now) (a.asked c.loop-goal.automaton) (a.asked c.entry_for.new.automaton) i.same_asked e.same_asked;
+      same_known = AreSame-trans (a.known c.args.automaton.now) (a.known c.loop-goal.automaton) (a.known c.entry_for.new.automaton) i.same_known e.same_known;
+      same_held = AreSame-trans (a.held c.args.automaton.now) (a.held c.loop-goal.automaton) (a.held c.entry_for.new.automaton) i.same_held e.same_held;
       same_used_up = e.same_used_up ∙ i.same_used_up;
       same_row_full = e.same_row_full ∙ i.same_row_full;
     }
