@@ -1,6 +1,7 @@
-use Rattle.std.proofs.Common.{sym}
+use Rattle.std.proofs.Common.{option_map, sym, ap, ◌∙◌}
+use Rattle.sel_cli.specs.Names.{task_for}
 use Rattle.sel_cli.proofs.Bounded.{command_bounded}
 use Rattle.sel_cli.proofs.run.obey.Goals as goal
 
 pub serve-requires-clause-settings : goal.serve-requires-clause-settings
-serve-requires-clause-settings g c = command_bounded _ _ (sym c.in-Ok-Some.ensures.exact)
+serve-requires-clause-settings g c = λ κs lives. command_bounded _ _ (sym c.in-Ok-Some.ensures.exact ∙ ap (option_map task_for) c.in-Ok-Some.field-0-is)
