@@ -1,7 +1,8 @@
-use Rattle.std.proofs.Common.{option_map, sym, ap, ◌∙◌}
+use Rattle.std.proofs.Common.{map, option_map, string_bytes, sym, ap, ◌∙◌}
 use Rattle.sel_cli.specs.Names.{task_for}
 use Rattle.sel_cli.proofs.Bounded.{command_bounded}
 use Rattle.sel_cli.proofs.run.obey.Goals as goal
 
 pub serve-requires-clause-settings : goal.serve-requires-clause-settings
-serve-requires-clause-settings g c = λ κs lives. command_bounded _ _ (sym c.in-Ok-Some.ensures.exact ∙ ap (option_map task_for) c.in-Ok-Some.field-0-is)
+serve-requires-clause-settings g c = λ κs lives.
+    command_bounded (map string_bytes c.args.words.now) (task_for c.in-Ok-Some.command) (sym c.in-Ok-Some.ensures.exact ∙ ap (option_map task_for) c.in-Ok-Some.field-0-is)
