@@ -6,7 +6,7 @@ use Rattle.sel_cli.specs.declared.settings.Bounds.{Bounds}
 use Rattle.sel_cli.specs.declared.settings.Settings.{Settings}
 use Rattle.sel_cli.specs.Settings.{is_number, is_within, number_within, chosen_value, chosen_settings, workers_bounds, states_bounds, rows_bounds, seed_bounds, trees_bounds, size_bounds, AreWithinBounds}
 use Rattle.sel_cli.specs.Split.{Parts, parts_of, values_for}
-use Rattle.sel_cli.specs.Words.{Job, Task, mode_of, job_of, grammar_name, task_of, asked_by, command}
+use Rattle.sel_cli.specs.Words.{Job, GrammarSource, Task, mode_of, job_of, source_of, task_of, asked_by, command}
 use Rattle.sel_cli.specs.declared.words.Mode.{Mode}
 
 -- what is made of a value is made of some
@@ -74,11 +74,11 @@ task_settings : (settings : Settings) (plain : List (List ℕ)) (task : Task) �
 task_settings settings [] task e = absurd (cc)
 task_settings settings (word ∷ []) task e = absurd (cc)
 task_settings settings (mode ∷ grammar ∷ words) task e =
-    let job_task : Job → Option Task = λ job. option_map (λ name. record { job = job; grammar = name; settings = settings }) (grammar_name grammar) in
+    let job_task : Job → Option Task = λ job. option_map (λ source. record { job = job; grammar = grammar; source = source; settings = settings }) (source_of grammar) in
     let mode_task : Mode → Option Task = λ m. option_and_then job_task (job_of m words) in
     let m = from_some mode_task (mode_of mode) task e in
     let j = from_some job_task (job_of m.0 words) task m.2 in
-    let g = from_mapped (λ (name : List ℕ). let t : Task = record { job = j.0; grammar = name; settings = settings } in t) (grammar_name grammar) task j.2 in
+    let g = from_mapped (λ (source : GrammarSource). let t : Task = record { job = j.0; grammar = grammar; source = source; settings = settings } in t) (source_of grammar) task j.2 in
     ap (λ (t : Task). t.settings) g.2
 
 pub command_bounded : (words : List (List ℕ)) (task : Task) → command words ≡ Some task → AreWithinBounds task.settings

@@ -16,7 +16,7 @@ use Rattle.sel_forest.specs.ForestText.{SpellsForest, IsForestFault}
 use Rattle.sel_forest.proofs.OneForest.{forest_one}
 use Rattle.sel_forest.proofs.OneFault.{fault_one as forest_fault_one, not_forest_and_fault}
 use Rattle.sel_forest.proofs.Roots.{plain_one}
-use Rattle.sel_cli.specs.Words.{Job, PrintGrammar, OverForest, Task, forest_name}
+use Rattle.sel_cli.specs.Words.{Job, PrintGrammar, OverForest, GrammarSource, Held, Shipped, Task, forest_name}
 use Rattle.sel_cli.specs.declared.words.Mode.TheVariants as mode
 use Rattle.sel_work.specs.declared.answer.Answer.{Answer}
 use Rattle.sel_work.specs.declared.answer.Goal.{Goal}
@@ -24,7 +24,7 @@ use Rattle.sel_work.specs.declared.answer.Goal.TheVariants as goals
 use Rattle.sel_work.specs.Answers.{IsTreeAnswer}
 use Rattle.sel_work.proofs.OneAnswer.{answer_one}
 use Rattle.sel_cli.specs.Output.{AreAnswers, AreAnswered, IsTreesAnswer, IsOutput, is_covered}
-use Rattle.sel_cli.specs.Texts.{Request, IsTold, MayBe, HasGrammarText, HasForestText, AcceptsGrammar, Accepts, IsTooLong, IsRefusedGrammar, RefusesGrammar, RefusesForest, IsWhole, grammar_limit, forest_limit}
+use Rattle.sel_cli.specs.Texts.{Request, IsTold, MayBe, IsGrammarText, HasGrammarText, HasForestText, AcceptsGrammar, Accepts, IsTooLong, IsRefusedGrammar, RefusesGrammar, RefusesForest, IsWhole, grammar_limit, forest_limit}
 use Rattle.sel_cli.specs.Ends.{Reads, EndsFor, Decides, IsExcused, IsAnswered, finished}
 use Rattle.sel_cli.specs.declared.status.Status.{Status}
 use Rattle.sel_cli.specs.declared.status.Status.TheVariants.{Done, Usage, ReadFault, TooBig, BadGrammar, BadForest, WriteFault, NoMemory, Uncovered}
@@ -78,6 +78,10 @@ some_none o a p q = cc
 
 same_text : (told : Option (List ℕ)) (text other : List ℕ) → MayBe told text → IsTold told other → text ≡ other
 same_text told text other m e = let P : Option (List ℕ) → Type 0 = λ o. IfSome o (λ b. text ≡ b) in subst P e m
+
+same_grammar_text : (source : GrammarSource) (told : Option (List ℕ)) (text other : List ℕ) → IsGrammarText MayBe source told text → IsGrammarText IsTold source told other → text ≡ other
+same_grammar_text Held told text other m e = same_text told text other m e
+same_grammar_text (Shipped shipped) told text other m e = m ∙ sym e
 
 same_forest_side : (g : Grammar) (text : List ℕ) (a b : ForestSide) → FindsForest g text a → FindsForest g text b → a ≡ b
 same_forest_side g text long_forest long_forest p q = refl
@@ -138,8 +142,8 @@ same_found request None (Some side) p q = some_none request.wanted q.0 p (q.2).a
 same_found request (Some side) None p q = some_none request.wanted p.0 q (p.2).asked_for
 same_found request (Some side) (Some other) (task, text, has, found) (task', text', has', found') =
     let n : task ≡ task' = some_same request.wanted task task' has.asked_for has'.asked_for in
-    let may : MayBe (request.held task'.grammar) text = subst (λ (x : Task). MayBe (request.held x.grammar) text) n has.is_text in
-    let t : text ≡ text' = same_text (request.held task'.grammar) text text' may has'.is_text in
+    let may : IsGrammarText MayBe task'.source (request.held task'.grammar) text = subst (λ (x : Task). IsGrammarText MayBe x.source (request.held x.grammar) text) n has.is_text in
+    let t : text ≡ text' = same_grammar_text task'.source (request.held task'.grammar) text text' may has'.is_text in
     let here : FindsGrammar MayBe request task' text side = subst (λ (x : Task). FindsGrammar MayBe request x text side) n found in
     ap (λ x. Some x) (same_side request task' text' side other (subst (λ x. FindsGrammar MayBe request task' x side) t here) found')
 

@@ -1,5 +1,5 @@
 -- How the parts of the top call end, and so the whole.
-use Rattle.std.proofs.Common.{◌≡◌, ℕ, ◌+◌, ◌<◌, ◌≤◌, Bool, true, false, List, length, take, drop, replicate, Option, Some, None, IfSome, refl, sym, ap, subst, ◌∙◌, inl, inr, arith, take-append-drop}
+use Rattle.std.proofs.Common.{◌≡◌, ℕ, ◌+◌, ◌<◌, ◌≤◌, Bool, true, false, List, length, take, drop, replicate, Option, Some, None, Result, Ok, Err, IfErr, IfSome, refl, sym, ap, subst, ◌∙◌, inl, inr, arith, take-append-drop}
 use Rattle.std.proofs.lemmas.List.{length-replicate}
 use Rattle.sel_base.specs.Causes.{Rose}
 use Rattle.sel_base.specs.Reads.{LastRead}
@@ -9,9 +9,9 @@ use Rattle.sel_grammar.specs.declared.refusal.GrammarRefusal.TheVariants as refu
 use Rattle.sel_grammar_text.specs.GrammarText.{SpellsGrammar}
 use Rattle.sel_normal.specs.NormalFaults.{NormalRefusedFor}
 use Rattle.sel_forest.specs.declared.forest.Forest.{Forest}
-use Rattle.sel_cli.specs.Words.{Job, Task, forest_name, last_name}
+use Rattle.sel_cli.specs.Words.{Job, GrammarSource, Held, Shipped, held_under, Task, forest_name, last_name}
 use Rattle.sel_cli.specs.Output.{IsOutput}
-use Rattle.sel_cli.specs.Texts.{Request, MayBe, AcceptsGrammar, Accepts, grammar_limit, forest_limit}
+use Rattle.sel_cli.specs.Texts.{Request, MayBe, IsGrammarText, AcceptsGrammar, Accepts, grammar_limit, forest_limit}
 use Rattle.sel_cli.specs.Ends.{Reads, StopsFor, EndsFor, WritesJobFor, IsFrontOf, WasRead, ReadsFor}
 use Rattle.sel_cli.specs.Parts.{FetchesFor, JudgedFor, PutsFor}
 use Rattle.sel_cli.specs.declared.status.Status.{Status}
@@ -31,20 +31,36 @@ rose_after a b c le rose = omega arith
 pub take_front : (n : ℕ) (whole : List ℕ) → IsFrontOf (take n whole) whole
 take_front n whole = (drop n whole, sym (take-append-drop n whole))
 
--- the grammar's text was not read
-pub fetch_grammar_stops : (request : Request) (task : Task) (reads : Reads) (status : Status) → request.wanted ≡ Some task
+-- what may stand behind what the shelf tells may be the text of a grammar that is held
+pub held_text : (source : GrammarSource) (told : Option (List ℕ)) (text : List ℕ) → source ≡ Held → MayBe told text → IsGrammarText MayBe source told text
+held_text Held told text e m = m
+held_text (Shipped shipped) told text e m = absurd (cc)
+
+-- the text of a grammar that is held was not read
+pub fetch_grammar_stops : (request : Request) (task : Task) (reads : Reads) (status : Status) → request.wanted ≡ Some task → task.source ≡ Held
     → FetchesFor (request.held task.grammar) reads task.grammar grammar_limit status → StopsFor request reads task.grammar status
-fetch_grammar_stops request task reads ReadFault w f = record { is_wanted = (task, w, inl refl); rose = f.0; last_name = f.1; last_failed = f.2 }
-fetch_grammar_stops request task reads TooBig w f =
+fetch_grammar_stops request task reads ReadFault w h f = record { is_wanted = (task, w, inl (ap (λ source. held_under source task.grammar) h)); rose = f.0; last_name = f.1; last_failed = f.2 }
+fetch_grammar_stops request task reads TooBig w h f =
     let long = longer_text (request.held task.grammar) grammar_limit f.0 in
-    record { limit = grammar_limit; too_long = inl (task, long.0, record { asked_for = w; is_text = long.1 }, refl, refl, long.2); last_name = f.1; last_count = f.2 }
-fetch_grammar_stops request task reads NoMemory w f = tt
-fetch_grammar_stops request task reads Done w f = absurd f
-fetch_grammar_stops request task reads Usage w f = absurd f
-fetch_grammar_stops request task reads (BadGrammar fault) w f = absurd f
-fetch_grammar_stops request task reads (BadForest fault) w f = absurd f
-fetch_grammar_stops request task reads WriteFault w f = absurd f
-fetch_grammar_stops request task reads Uncovered w f = absurd f
+    record {
+      limit = grammar_limit;
+      too_long = inl (task, long.0, record { asked_for = w; is_text = held_text task.source (request.held task.grammar) long.0 h long.1 }, ap (λ source. held_under source task.grammar) h, refl, long.2);
+      last_name = f.1;
+      last_count = f.2;
+    }
+fetch_grammar_stops request task reads NoMemory w h f = tt
+fetch_grammar_stops request task reads Done w h f = absurd f
+fetch_grammar_stops request task reads Usage w h f = absurd f
+fetch_grammar_stops request task reads (BadGrammar fault) w h f = absurd f
+fetch_grammar_stops request task reads (BadForest fault) w h f = absurd f
+fetch_grammar_stops request task reads WriteFault w h f = absurd f
+fetch_grammar_stops request task reads Uncovered w h f = absurd f
+
+-- and where it is a call's answer
+pub held_stops : {A : Type 0} (request : Request) (task : Task) (reads : Reads) (r : Result A Status) → request.wanted ≡ Some task → task.source ≡ Held
+    → IfErr r (FetchesFor (request.held task.grammar) reads task.grammar grammar_limit) → IfErr r (StopsFor request reads task.grammar)
+held_stops request task reads (Ok a) w h f = tt
+held_stops request task reads (Err status) w h f = fetch_grammar_stops request task reads status w h f
 
 -- the forest's text was not read
 pub fetch_forest_stops : (request : Request) (task : Task) (grammar : Grammar) (name : List ℕ) (reads : Reads) (status : Status)
@@ -132,11 +148,11 @@ normal_judged text grammar (refusal.Fault fault) s f = inr (grammar, s, f)
 normal_judged text grammar refusal.NoMemory s f = tt
 
 -- what was read last where a task was done
-pub done_reads : (task : Task) (reads : Reads) (name : List ℕ) (job : Job) (grammar : Grammar) (forest : Option Forest) (before after : ℕ) (bytes : List ℕ) (status : Status)
-    → last_name task ≡ name → WasRead reads name → WritesJobFor job grammar forest before after bytes status → ReadsFor (Some task) reads status
-done_reads task reads name job grammar forest before after bytes status e r f = go status (subst (WasRead reads) (sym e) r) f
+pub done_reads : (task : Task) (reads : Reads) (name : Option (List ℕ)) (job : Job) (grammar : Grammar) (forest : Option Forest) (before after : ℕ) (bytes : List ℕ) (status : Status)
+    → last_name task ≡ name → IfSome name (WasRead reads) → WritesJobFor job grammar forest before after bytes status → ReadsFor (Some task) reads status
+done_reads task reads name job grammar forest before after bytes status e r f = go status (subst (λ n. IfSome n (WasRead reads)) (sym e) r) f
   where
-    go : (status : Status) → WasRead reads (last_name task) → WritesJobFor job grammar forest before after bytes status → ReadsFor (Some task) reads status
+    go : (status : Status) → IfSome (last_name task) (WasRead reads) → WritesJobFor job grammar forest before after bytes status → ReadsFor (Some task) reads status
     go WriteFault r f = r
     go NoMemory r f = tt
     go Done r f = r

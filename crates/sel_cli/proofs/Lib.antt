@@ -11,5 +11,6 @@ pub mod ClapWords
 pub mod WordExamples
 pub mod Numbers
 pub mod Bounded
+pub mod Sources
 pub mod WordShapes
 pub mod SameParts

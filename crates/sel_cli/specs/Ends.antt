@@ -1,11 +1,11 @@
 -- How the top call ends, and why.
-use Rattle.std.specs.Prelude.{◌≡◌, ℕ, ◌<◌, Bool, true, false, List, [], ◌++◌, Option, Some, None, IfSome, ◌⊎◌}
+use Rattle.std.specs.Prelude.{◌≡◌, ℕ, ◌<◌, Bool, true, false, List, [], ◌++◌, Option, Some, None, option_and_then, IfSome, ◌⊎◌}
 use Rattle.std.specs.Io.KnownBytes.{append_known}
 use Rattle.sel_base.specs.Causes.{Rose}
 use Rattle.sel_base.specs.Reads.{LastRead}
 use Rattle.sel_grammar.specs.declared.grammar.Grammar.{Grammar}
 use Rattle.sel_forest.specs.declared.forest.Forest.{Forest}
-use Rattle.sel_cli.specs.Words.{Job, Task, forest_name, last_name}
+use Rattle.sel_cli.specs.Words.{Job, Task, grammar_name, forest_name, last_name}
 use Rattle.sel_cli.specs.Output.{IsOutput}
 use Rattle.sel_cli.specs.Texts.{Request, IsTold, MayBe, AcceptsGrammar, Accepts, IsTooLong, RefusesGrammar, RefusesForest, IsWhole}
 use Rattle.sel_cli.specs.Lines.{status_line}
@@ -18,10 +18,10 @@ pub record Reads : Type 0 where
   pub after : ℕ
   pub last : LastRead
 
--- the text of this name is the next to be read: the grammar's, or the forest's behind an accepted grammar
+-- the text of this name is the next to be read: the grammar's, unless it is shipped, or the forest's behind an accepted grammar
 abbrev pub IsWanted : Request → List ℕ → Type 0
 IsWanted request name = (task : Task) × (request.wanted ≡ Some task)
-    × ((name ≡ task.grammar) ⊎ ((grammar : Grammar) × AcceptsGrammar MayBe request task grammar × (forest_name task.job ≡ Some name)))
+    × ((grammar_name task ≡ Some name) ⊎ ((grammar : Grammar) × AcceptsGrammar MayBe request task grammar × (forest_name task.job ≡ Some name)))
 
 -- the count of faults rose, and the last read was of this text and failed
 pub record IsUnread (request : Request) (reads : Reads) (name : List ℕ) : Type 0 where
@@ -122,11 +122,16 @@ pub record IsAnswered (job : Job) (grammar : Grammar) (forest : Option Forest) (
 abbrev pub WasRead : Reads → List ℕ → Type 0
 WasRead reads name = (reads.last.name ≡ name) × (reads.last.failed ≡ false)
 
--- what was read last: the grammar's text where it is refused, the forest's where that is, and the last of the task's where it is done
+-- what was read last: the grammar's text where it is refused, the forest's where that is, and the last of the task's where it is done; nothing is
+-- said where no such text is read
 abbrev pub ReadsFor : Option Task → Reads → Status → Type 0
-ReadsFor wanted reads (BadGrammar fault) = IfSome wanted (λ task. WasRead reads task.grammar)
-ReadsFor wanted reads (BadForest fault) = IfSome wanted (λ task. WasRead reads (last_name task))
-ReadsFor wanted reads Done = IfSome wanted (λ task. WasRead reads (last_name task))
-ReadsFor wanted reads Uncovered = IfSome wanted (λ task. WasRead reads (last_name task))
-ReadsFor wanted reads WriteFault = IfSome wanted (λ task. WasRead reads (last_name task))
+ReadsFor wanted reads (BadGrammar fault) = IfSome (option_and_then grammar_name wanted) (WasRead reads)
+ReadsFor wanted reads (BadForest fault) = IfSome (option_and_then last_name wanted) (WasRead reads)
+ReadsFor wanted reads Done = IfSome (option_and_then last_name wanted) (WasRead reads)
+ReadsFor wanted reads Uncovered = IfSome (option_and_then last_name wanted) (WasRead reads)
+ReadsFor wanted reads WriteFault = IfSome (option_and_then last_name wanted) (WasRead reads)
 ReadsFor wanted reads _ = Unit {0}
+
+-- the words need no text of the shelf: they are no command, or a shipped grammar is printed
+abbrev pub NeedsNoText : Option Task → Type 0
+NeedsNoText wanted = option_and_then last_name wanted ≡ None

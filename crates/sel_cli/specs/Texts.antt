@@ -7,7 +7,7 @@ use Rattle.sel_normal.specs.NormalFaults.{IsAccepted, IsNormalFault}
 use Rattle.sel_forest.specs.declared.forest.Forest.{Forest}
 use Rattle.sel_forest.specs.declared.refusal.ForestFault.{ForestFault}
 use Rattle.sel_forest.specs.ForestText.{SpellsForest, IsForestFault}
-use Rattle.sel_cli.specs.Words.{Task, forest_name}
+use Rattle.sel_cli.specs.Words.{Task, GrammarSource, Held, Shipped, grammar_name, forest_name}
 use Rattle.sel_cli.specs.Output.{IsOutput}
 
 -- the greatest length of a grammar's text, in bytes
@@ -31,10 +31,15 @@ pub record Request : Type 0 where
   pub wanted : Option Task
   pub held : List ℕ → Option (List ℕ)
 
+-- this is a grammar's text, by its source and by what the shelf tells of its name: a shipped text is the stated one, whatever the shelf holds
+abbrev pub IsGrammarText : (Option (List ℕ) → List ℕ → Type 0) → GrammarSource → Option (List ℕ) → List ℕ → Type 0
+IsGrammarText Is Held told text = Is told text
+IsGrammarText Is (Shipped shipped) told text = text ≡ shipped
+
 -- the words ask for this task, and its grammar's text is this
 pub record HasGrammarText (Is : Option (List ℕ) → List ℕ → Type 0) (request : Request) (task : Task) (text : List ℕ) : Type 0 where
   pub asked_for : request.wanted ≡ Some task
-  pub is_text : Is (request.held task.grammar) text
+  pub is_text : IsGrammarText Is task.source (request.held task.grammar) text
 
 -- the grammar's text spells this grammar, and nothing is wrong with its normal form
 pub record AcceptsGrammar (Is : Option (List ℕ) → List ℕ → Type 0) (request : Request) (task : Task) (grammar : Grammar) : Type 0 where
@@ -63,10 +68,10 @@ abbrev pub Accepts : (Option (List ℕ) → List ℕ → Type 0) → Request →
 Accepts Is request task grammar None = AcceptsGrammar Is request task grammar × (forest_name task.job ≡ None)
 Accepts Is request task grammar (Some forest) = AcceptsForest Is request task grammar forest
 
--- the text of this name is longer than its limit: the grammar's, or the forest's behind an accepted grammar
+-- the text of this name is longer than its limit: that of a grammar that is read, or the forest's behind an accepted grammar
 abbrev pub IsTooLong : (Option (List ℕ) → List ℕ → Type 0) → Request → List ℕ → ℕ → Type 0
 IsTooLong Is request name limit =
-    ((task : Task) × (text : List ℕ) × HasGrammarText Is request task text × (name ≡ task.grammar) × (limit ≡ grammar_limit) × (limit < length text))
+    ((task : Task) × (text : List ℕ) × HasGrammarText Is request task text × (grammar_name task ≡ Some name) × (limit ≡ grammar_limit) × (limit < length text))
     ⊎ ((task : Task) × (grammar : Grammar) × (text : List ℕ) × HasForestText Is request task grammar name text × (limit ≡ forest_limit) × (limit < length text))
 
 -- the text has this first fault, or spells a grammar whose normal form has it

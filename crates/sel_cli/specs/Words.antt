@@ -1,5 +1,6 @@
 -- What the words ask for.
-use Rattle.std.specs.Prelude.{ℕ, Bool, false, ◌==◌, List, [], ◌∷◌, Option, Some, None, option_and_then, option_map, unwrap_or, bytes_eq, codes, if◌then◌else◌}
+use Rattle.std.specs.Prelude.{ℕ, ◌==◌, List, [], ◌∷◌, Option, Some, None, option_and_then, option_map, bytes_eq, codes, if◌then◌else◌}
+use Rattle.sel_targets.specs.TargetText.{target_text}
 use Rattle.sel_cli.specs.declared.settings.Settings.{Settings}
 use Rattle.sel_cli.specs.declared.words.Mode.{Mode}
 use Rattle.sel_cli.specs.declared.words.Mode.TheVariants.{Cover, Select, Print}
@@ -11,20 +12,40 @@ pub data Job : Type 0 where
   PrintGrammar : Job
   OverForest : Mode → List ℕ → Job
 
--- what is to be done, the name of the grammar's text, and how it is to be done
+-- where the grammar's text is from: the shelf holds it under the grammar's name, or the program ships it, and it is this text
+pub data GrammarSource : Type 0 where
+  Held : GrammarSource
+  Shipped : List ℕ → GrammarSource
+
+-- what is to be done, the grammar's name, which is its word as given, where its text is from, and how it is to be done
 pub record Task : Type 0 where
   pub job : Job
   pub grammar : List ℕ
+  pub source : GrammarSource
   pub settings : Settings
+
+-- the name under which the shelf holds a grammar's text of this source and name; none for a shipped grammar
+abbrev pub held_under : GrammarSource → List ℕ → Option (List ℕ)
+held_under Held name = Some name
+held_under (Shipped text) name = None
+
+-- the name of the grammar's text on the shelf, where it is read
+abbrev pub grammar_name : Task → Option (List ℕ)
+grammar_name task = held_under task.source task.grammar
 
 -- the name of the forest's text, where there is one
 abbrev pub forest_name : Job → Option (List ℕ)
 forest_name PrintGrammar = None
 forest_name (OverForest mode name) = Some name
 
--- the name of the text that is read last
-abbrev pub last_name : Task → List ℕ
-last_name task = unwrap_or (forest_name task.job) task.grammar
+-- of the names of two texts that are read one after the other, the last
+abbrev pub later_name : Option (List ℕ) → Option (List ℕ) → Option (List ℕ)
+later_name first None = first
+later_name first (Some second) = Some second
+
+-- the name of the text that is read last; none where none is read, which is so where a shipped grammar is printed
+abbrev pub last_name : Task → Option (List ℕ)
+last_name task = later_name (grammar_name task) (forest_name task.job)
 
 -- the modes that are built
 abbrev pub mode_of : List ℕ → Option Mode
@@ -45,19 +66,16 @@ job_of mode [] = grammar_job mode
 job_of mode (forest ∷ []) = Some (OverForest mode forest)
 job_of mode (forest ∷ more ∷ words) = None
 
--- a word that begins with `@`, and so names a shipped grammar; none is built
-abbrev pub is_shipped : List ℕ → Bool
-is_shipped (first ∷ rest) = first == 64
-is_shipped [] = false
-
--- the name of a grammar's text
-abbrev pub grammar_name : List ℕ → Option (List ℕ)
-grammar_name word = if is_shipped word then None else Some word
+-- where the text of the grammar with this word is from: behind `@` stands the name of a shipped grammar, and none for every other name there;
+-- any other word is a name for the shelf
+abbrev pub source_of : List ℕ → Option GrammarSource
+source_of [] = Some Held
+source_of (first ∷ rest) = if first == 64 then option_map (λ text. Shipped text) (target_text rest) else Some Held
 
 -- MODE, GRAMMAR and, for most, FOREST, with these settings
 abbrev pub task_of : Settings → List (List ℕ) → Option Task
 task_of settings (mode ∷ grammar ∷ words) =
-    option_and_then (λ mode. option_and_then (λ job. option_map (λ grammar. record { job = job; grammar = grammar; settings = settings }) (grammar_name grammar)) (job_of mode words)) (mode_of mode)
+    option_and_then (λ mode. option_and_then (λ job. option_map (λ source. record { job = job; grammar = grammar; source = source; settings = settings }) (source_of grammar)) (job_of mode words)) (mode_of mode)
 task_of settings _ = None
 
 -- what the parts ask for: lawful options, and the plain words of a task

@@ -54,4 +54,6 @@ mod tests_grammars;
 #[cfg(test)]
 mod tests_select;
 #[cfg(test)]
+mod tests_targets;
+#[cfg(test)]
 mod tests_words;

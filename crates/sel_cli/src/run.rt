@@ -9,9 +9,9 @@ ghost use Rattle.sel_items.specs.Laws.{IsAcceptedForm};
 ghost use Rattle.sel_cli.specs.declared.status.Status.{Status as AnyStatus};
 ghost use Rattle.sel_cli.specs.Words.{Task as AnyTask, PrintGrammar, OverForest, command};
 ghost use Rattle.sel_cli.specs.Settings.{AreWithinBounds};
-ghost use Rattle.sel_cli.specs.Names.{task_for};
+ghost use Rattle.sel_cli.specs.Names.{task_for, source_for, IsShort};
 ghost use Rattle.sel_cli.specs.Texts.{IsTold, MayBe, AcceptsGrammar, Accepts};
-ghost use Rattle.sel_cli.specs.Ends.{EndsFor, WritesJobFor, Ending, Decides, IsExcused, IsAnswered, IsFrontOf, ReadsFor};
+ghost use Rattle.sel_cli.specs.Ends.{EndsFor, WritesJobFor, Ending, Decides, IsExcused, IsAnswered, IsFrontOf, ReadsFor, NeedsNoText};
 ghost use Rattle.sel_cli.specs.Parts.{PutsFor};
 ghost use Rattle.sel_cli.specs.Lines.{status_line};
 
@@ -132,7 +132,7 @@ fn serve_forest<'a, S: Shelf, K: Sink, G: Gate>(
     }
 }
 
-// Reads the grammar, and does the job with it.
+// Judges the grammar, and does the job with it.
 fn serve<'a, S: Shelf, K: Sink, G: Gate>(
     alloc: Global,
     command: Command<'a>,
@@ -141,6 +141,7 @@ fn serve<'a, S: Shelf, K: Sink, G: Gate>(
     gate: &G,
 ) -> Ended<'a>
     requires settings { AreWithinBounds command.settings }
+    requires short { IsShort (source_for command.source) }
     ensures ends { (bytes : List ℕ)
         × EndsFor (record { wanted = Some (task_for command.entry); held = S.held shelf.old })
         (record { before = S.faults shelf.old; after = S.faults shelf.new; last = S.last shelf.new })
@@ -152,6 +153,7 @@ fn serve<'a, S: Shelf, K: Sink, G: Gate>(
     ensures quiet { (result.status ≢ Status.ReadFault) → S.faults shelf.new ≡ S.faults shelf.old }
     ensures out_quiet { (result.status ≢ Status.WriteFault) → K.faults out.new ≡ K.faults out.old }
     ensures read { ReadsFor (Some (task_for command.entry)) (record { before = S.faults shelf.old; after = S.faults shelf.new; last = S.last shelf.new }) result.status }
+    ensures untouched { NeedsNoText (Some (task_for command.entry)) → shelf.new ≡ shelf.old }
 {
     let accepted = match accept_grammar(alloc, shelf, command) {
         Ok(accepted) => accepted,
@@ -191,6 +193,7 @@ fn obey<'a, S: Shelf, K: Sink, G: Gate>(
     ensures quiet { (result.status ≢ Status.ReadFault) → S.faults shelf.new ≡ S.faults shelf.old }
     ensures out_quiet { (result.status ≢ Status.WriteFault) → K.faults out.new ≡ K.faults out.old }
     ensures read { ReadsFor (command (map string_bytes words.now)) (record { before = S.faults shelf.old; after = S.faults shelf.new; last = S.last shelf.new }) result.status }
+    ensures untouched { NeedsNoText (command (map string_bytes words.now)) → shelf.new ≡ shelf.old }
 {
     let status = match read_words(alloc, words) {
         Ok(Some(command)) => return serve(alloc, command, shelf, out, gate),
@@ -202,8 +205,8 @@ fn obey<'a, S: Shelf, K: Sink, G: Gate>(
 
 /// Does what the words ask for (`cover GRAMMAR FOREST`, `select GRAMMAR FOREST`, `print GRAMMAR` or
 /// `print GRAMMAR FOREST`, and options in any place, without the program's name): reads the texts from
-/// the shelf, writes the cheapest cover of each tree, the text that it expands to, or the grammar or the
-/// forest in print, to `out`, and says how it ended. The status's line goes to `err`.
+/// the shelf, but for a shipped grammar's, writes the cheapest cover of each tree, the text that it expands
+/// to, or the grammar or the forest in print, to `out`, and says how it ended. The status's line goes to `err`.
 pub fn run<S: Shelf, K: Sink, E: Sink, G: Gate, Rt: Threads + Sync>(
     _rt: &Rt,
     alloc: Global,
@@ -231,6 +234,8 @@ pub fn run<S: Shelf, K: Sink, E: Sink, G: Gate, Rt: Threads + Sync>(
     ensures quiet { (result.0 ≢ Status.ReadFault) → S.faults shelf.new ≡ S.faults shelf.old }
     ensures out_quiet { (result.0 ≢ Status.WriteFault) → K.faults out.new ≡ K.faults out.old }
     ensures read { ReadsFor (command (map string_bytes words.now)) (record { before = S.faults shelf.old; after = S.faults shelf.new; last = S.last shelf.new }) result.0 }
+    // Nothing is read where the words are no command, or a shipped grammar is printed.
+    ensures untouched { NeedsNoText (command (map string_bytes words.now)) → shelf.new ≡ shelf.old }
     ensures later { (S.faults shelf.old ≤ S.faults shelf.new) × (K.faults out.old ≤ K.faults out.new) × (E.faults err.old ≤ E.faults err.new) }
 {
     let ended = obey(alloc, words, shelf, out, gate);

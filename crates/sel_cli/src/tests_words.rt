@@ -1,7 +1,7 @@
 // Lists of words, with what they ask for. A list is written as one text, with a space between two words.
 use crate::run::run;
 use crate::status::Status;
-use crate::words::{Command, Job, Mode, read_words};
+use crate::words::{Command, GrammarSource, Job, Mode, read_words};
 use sel_base::{MemoryShelf, MemorySink, OpenGate};
 use std::alloc::Global;
 use std::marker::Sync;
@@ -9,14 +9,16 @@ use std::process::Abort;
 use std::test::Fail;
 use std::thread::Threads;
 
-// A command: what is done, the texts' names (no forest's where that is empty), and the values of its
-// options: workers, states, rows, seed, trees and size.
+// A command: what is done, the texts' names (no forest's where that is empty), how many bytes the grammar's
+// shipped text has (0 where it is read), and the values of its options: workers, states, rows, seed, trees and
+// size.
 #[derive(Clone, Copy)]
 struct Case<'a> {
     words: &'a str,
     done: &'a str,
     grammar: &'a str,
     forest: &'a str,
+    shipped: usize,
     settings: [u64; 6],
 }
 
@@ -25,6 +27,7 @@ const PLAIN: Case<'static> = Case {
     done: "cover",
     grammar: "g",
     forest: "f",
+    shipped: 0,
     settings: [4, 4_096, 65_536, 1, 1_000, 64],
 };
 
@@ -53,10 +56,18 @@ fn parts_of<'a>(job: Job<'a>) -> (&'a str, &'a str) {
     }
 }
 
+fn shipped_bytes(source: GrammarSource<'_>) -> usize {
+    match source {
+        GrammarSource::Held => 0,
+        GrammarSource::Shipped(text) => text.len(),
+    }
+}
+
 fn asks_for(rt: &impl Abort, command: &Command<'_>, case: &Case<'_>) {
     let (done, forest) = parts_of(command.job);
     assert!(rt; is_same(done, case.done));
     assert!(rt; is_same(command.grammar, case.grammar));
+    assert_eq!(rt; shipped_bytes(command.source), case.shipped);
     assert!(rt; is_same(forest, case.forest));
     let settings = command.settings;
     let wanted = case.settings;
@@ -141,6 +152,53 @@ fn options_stand_in_any_place_and_plain_words_in_order(rt: HostRuntime) -> Resul
         Case {
             words: "cover g f --workers 00000000000000000005",
             settings: [5, 4_096, 65_536, 1, 1_000, 64],
+            ..PLAIN
+        },
+    ];
+    for case in &cases {
+        is_read(&rt, alloc, case)?;
+    }
+    Ok(())
+}
+
+#[test]
+fn a_sign_and_a_name_ask_for_a_shipped_grammar(rt: HostRuntime) -> Result<(), Fail> {
+    let alloc = rt.alloc();
+    let cases = [
+        Case {
+            words: "cover @rv64i f",
+            grammar: "@rv64i",
+            shipped: 1_306,
+            ..PLAIN
+        },
+        Case {
+            words: "select @aarch64 --rows=7 f",
+            done: "select",
+            grammar: "@aarch64",
+            shipped: 1_378,
+            settings: [4, 4_096, 7, 1, 1_000, 64],
+            ..PLAIN
+        },
+        Case {
+            words: "print -- @x86-64",
+            done: "print",
+            grammar: "@x86-64",
+            forest: "",
+            shipped: 1_854,
+            ..PLAIN
+        },
+        // A forest has a file's name.
+        Case {
+            words: "print @x86-64 @x86-64",
+            done: "print",
+            grammar: "@x86-64",
+            forest: "@x86-64",
+            shipped: 1_854,
+            ..PLAIN
+        },
+        Case {
+            words: "cover ./@rv64i f",
+            grammar: "./@rv64i",
             ..PLAIN
         },
     ];
@@ -243,12 +301,18 @@ fn words_that_are_no_command(rt: HostRuntime) -> Result<(), Fail> {
         "select g f f",
         "print",
         "print g f f",
-        // A shipped grammar, behind `--` too.
-        "print @rv64i",
+        // No shipped grammar has this name, behind `--` too.
         "cover @mips f",
-        "cover @rv64i f",
         "cover @ f",
+        "cover @RV64I f",
+        "cover @rv64i@ f",
+        "cover @@rv64i f",
+        "print @x86_64",
         "cover -- @g f",
+        "print -- @mips",
+        // A shipped grammar, with too few or too many texts beside it.
+        "cover @rv64i",
+        "print @rv64i f f",
         // An option that stands twice.
         "cover g f --workers 1 --workers 1",
         "cover g f --workers=1 --workers 1",
@@ -322,6 +386,8 @@ fn a_command_runs_and_other_words_are_refused(rt: HostRuntime) -> Result<(), Fai
         "print g0",
         "print g0 f",
         "print -- g0 f",
+        "print @rv64i",
+        "print -- @aarch64",
     ];
     for text in &commands {
         assert_eq!(&rt; status_of(&rt, alloc, text)?, Status::Done);

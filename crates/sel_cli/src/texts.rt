@@ -1,18 +1,19 @@
 // The two texts, read and accepted.
-ghost use Rattle.std.specs.Prelude.{◌≡◌, ◌≤◌, Some, length, IfOk, IfErr, IsErrOf, OnOk};
+ghost use Rattle.std.specs.Prelude.{◌≡◌, ◌≤◌, Some, None, length, IfOk, IfErr, IfSome, IsErrOf, OnOk};
 ghost use Rattle.sel_grammar.specs.Limits.{IsWithinLimits};
 ghost use Rattle.sel_grammar_text.specs.GrammarText.{SpellsGrammar};
 ghost use Rattle.sel_forest.specs.Valid.{IsValidForest};
 ghost use Rattle.sel_items.specs.Laws.{IsAcceptedForm};
-ghost use Rattle.sel_cli.specs.Names.{task_for};
-ghost use Rattle.sel_cli.specs.Texts.{MayBe, AcceptsGrammar, AcceptsForest, grammar_limit};
+ghost use Rattle.sel_cli.specs.Names.{task_for, source_for, IsShort};
+ghost use Rattle.sel_cli.specs.Texts.{MayBe, HasGrammarText, AcceptsGrammar, AcceptsForest, grammar_limit};
 ghost use Rattle.sel_cli.specs.Ends.{StopsFor, WasRead, ReadsFor};
-ghost use Rattle.sel_cli.specs.Words.{Task, forest_name};
+ghost use Rattle.sel_cli.specs.Words.{Task, grammar_name, forest_name};
 ghost use Rattle.sel_cli.specs.Parts.{FetchesFor, JudgedFor};
 
 use crate::status::Status;
-use crate::words::Command;
-use sel_base::{Shelf, ShelfFault};
+use crate::text::put;
+use crate::words::{Command, GrammarSource};
+use sel_base::{NoMemory, Shelf, ShelfFault};
 use sel_forest::{Forest, ForestRefusal, read_forest};
 use sel_grammar::{Grammar, GrammarRefusal};
 use sel_grammar_text::read_grammar;
@@ -49,6 +50,41 @@ fn fetch<S: Shelf>(
     }
 }
 
+fn copied(alloc: Global, text: &str) -> Result<Vec<u8>, NoMemory>
+    ensures { IfOk result (λ bytes. bytes.items ≡ text.now) }
+{
+    let mut bytes = Vec::new(alloc);
+    put(&mut bytes, text.as_bytes())?;
+    Ok(bytes)
+}
+
+// The text of the command's grammar: a shipped one, or else one that is read.
+fn grammar_text<S: Shelf>(
+    alloc: Global,
+    shelf: &mut S,
+    command: Command<'_>,
+) -> Result<Vec<u8>, Status>
+    requires short { IsShort (source_for command.source) }
+    ensures text { IfOk result (λ text. HasGrammarText MayBe (record { wanted = Some (task_for command.entry); held = S.held shelf.old }) (task_for command.entry) text.items) }
+    ensures within { IfOk result (λ text. length text.items ≤ grammar_limit) }
+    ensures refused { IfErr result (StopsFor (record { wanted = Some (task_for command.entry); held = S.held shelf.old })
+        (record { before = S.faults shelf.old; after = S.faults shelf.new; last = S.last shelf.new }) command.entry.grammar.now) }
+    ensures unchanged { S.held shelf.new ≡ S.held shelf.old }
+    ensures later { S.faults shelf.old ≤ S.faults shelf.new }
+    ensures quiet { (¬ IsErrOf result Status.ReadFault) → S.faults shelf.new ≡ S.faults shelf.old }
+    ensures read { OnOk result (IfSome (grammar_name (task_for command.entry)) (WasRead (record { before = S.faults shelf.old; after = S.faults shelf.new; last = S.last shelf.new }))) }
+    ensures unread { IfErr result (λ status. (task : Task) → ReadsFor (Some task) (record { before = S.faults shelf.old; after = S.faults shelf.new; last = S.last shelf.new }) status) }
+    ensures untouched { grammar_name (task_for command.entry) ≡ None → shelf.new ≡ shelf.old }
+{
+    match command.source {
+        GrammarSource::Held => fetch(alloc, shelf, command.grammar, GRAMMAR_LIMIT),
+        GrammarSource::Shipped(text) => match copied(alloc, text) {
+            Ok(text) => Ok(text),
+            Err(NoMemory) => Err(Status::NoMemory),
+        },
+    }
+}
+
 /// A grammar that is accepted, and its normal form.
 #[derive(Drop)]
 pub struct Accepted {
@@ -70,12 +106,13 @@ fn judged(alloc: Global, bytes: &[u8]) -> Result<Accepted, GrammarRefusal>
     }
 }
 
-/// The grammar that the text of its name spells, where it is accepted.
+/// The grammar that the text of the command's grammar spells, where it is accepted. Nothing is read for a shipped one.
 pub fn accept_grammar<S: Shelf>(
     alloc: Global,
     shelf: &mut S,
     command: Command<'_>,
 ) -> Result<Accepted, Status>
+    requires short { IsShort (source_for command.source) }
     ensures accepted { IfOk result (λ accepted. AcceptsGrammar MayBe (record { wanted = Some (task_for command.entry); held = S.held shelf.old }) (task_for command.entry) accepted.grammar) }
     ensures form { IfOk result (λ accepted. IsAcceptedForm accepted.grammar accepted.normal) }
     ensures refused { IfErr result (StopsFor (record { wanted = Some (task_for command.entry); held = S.held shelf.old })
@@ -83,10 +120,11 @@ pub fn accept_grammar<S: Shelf>(
     ensures unchanged { S.held shelf.new ≡ S.held shelf.old }
     ensures later { S.faults shelf.old ≤ S.faults shelf.new }
     ensures quiet { (¬ IsErrOf result Status.ReadFault) → S.faults shelf.new ≡ S.faults shelf.old }
-    ensures read { OnOk result (WasRead (record { before = S.faults shelf.old; after = S.faults shelf.new; last = S.last shelf.new }) command.entry.grammar.now) }
+    ensures read { OnOk result (IfSome (grammar_name (task_for command.entry)) (WasRead (record { before = S.faults shelf.old; after = S.faults shelf.new; last = S.last shelf.new }))) }
     ensures unread { IfErr result (ReadsFor (Some (task_for command.entry)) (record { before = S.faults shelf.old; after = S.faults shelf.new; last = S.last shelf.new })) }
+    ensures untouched { grammar_name (task_for command.entry) ≡ None → shelf.new ≡ shelf.old }
 {
-    let text = match fetch(alloc, shelf, command.grammar, GRAMMAR_LIMIT) {
+    let text = match grammar_text(alloc, shelf, command) {
         Ok(text) => text,
         Err(status) => return Err(status),
     };

@@ -1,7 +1,7 @@
 // What the words ask for.
-ghost use Rattle.std.specs.Prelude.{◌≡◌, map, option_map, option_and_then, string_bytes, IfOk};
-ghost use Rattle.sel_cli.specs.Words.{command, is_shipped, mode_of, job_of, task_of, asked_by};
-ghost use Rattle.sel_cli.specs.Names.{job_for, task_for};
+ghost use Rattle.std.specs.Prelude.{◌≡◌, map, option_map, option_and_then, string_bytes, IfOk, IfSome};
+ghost use Rattle.sel_cli.specs.Words.{command, source_of, mode_of, job_of, task_of, asked_by};
+ghost use Rattle.sel_cli.specs.Names.{job_for, source_for, task_for, IsShort};
 ghost use Rattle.sel_cli.specs.Found.{IsFound};
 ghost use Rattle.sel_cli.specs.Split.{Parts};
 
@@ -9,6 +9,7 @@ use crate::command_line::take_apart;
 use crate::settings::{Settings, chosen_settings};
 use clap::ArgMatches;
 use sel_base::NoMemory;
+use sel_targets::target;
 use std::alloc::Global;
 
 /// What is done over a forest.
@@ -29,11 +30,22 @@ pub enum Job<'a> {
     OverForest(Mode, &'a str),
 }
 
-/// What the words ask for: the job, the name of the grammar's text, and what the options say.
+/// Where a grammar's text is from.
+#[derive(Clone, Copy)]
+pub enum GrammarSource<'a> {
+    /// The shelf holds it under the grammar's name.
+    Held,
+    /// The program ships it, and it is this text.
+    Shipped(&'a str),
+}
+
+/// What the words ask for: the job, the grammar's name, which is its word, where its text is from, and what the
+/// options say.
 #[derive(Clone, Copy)]
 pub struct Command<'a> {
     pub job: Job<'a>,
     pub grammar: &'a str,
+    pub source: GrammarSource<'a>,
     pub settings: Settings,
 }
 
@@ -61,27 +73,28 @@ fn job_of<'a>(mode: Mode, words: &[&'a str]) -> Option<Job<'a>>
     }
 }
 
-fn is_shipped(word: &str) -> bool
-    ensures { result ≡ is_shipped word.now }
+fn source_of<'a>(word: &str) -> Option<GrammarSource<'a>>
+    ensures exact { option_map source_for result ≡ source_of word.now }
+    ensures short { IfSome result (λ source. IsShort (source_for source)) }
 {
-    match word.as_bytes() {
-        [b'@', ..] => true,
-        _ => false,
+    match word.strip_prefix('@') {
+        Some(name) => Some(GrammarSource::Shipped(target(name)?)),
+        None => Some(GrammarSource::Held),
     }
 }
 
 fn command_of<'a>(settings: Settings, plain: &[&'a str]) -> Option<Command<'a>>
-    ensures { option_map task_for result ≡ task_of settings (map (λ word. word.now) plain.now) }
+    ensures exact { option_map task_for result ≡ task_of settings (map (λ word. word.now) plain.now) }
+    ensures short { IfSome result (λ command. IsShort (source_for command.source)) }
 {
     match plain {
         [mode, grammar, words @ ..] => {
             let job = job_of(mode_of(mode)?, words)?;
-            if is_shipped(grammar) {
-                return None;
-            }
+            let source = source_of(grammar)?;
             Some(Command {
                 job,
                 grammar,
+                source,
                 settings,
             })
         }
@@ -90,7 +103,8 @@ fn command_of<'a>(settings: Settings, plain: &[&'a str]) -> Option<Command<'a>>
 }
 
 fn asked_by<'a>(found: &ArgMatches<'a>) -> Option<Command<'a>>
-    ensures { (parts : Parts) → IsFound found.now parts → option_map task_for result ≡ asked_by parts }
+    ensures exact { (parts : Parts) → IsFound found.now parts → option_map task_for result ≡ asked_by parts }
+    ensures short { IfSome result (λ command. IsShort (source_for command.source)) }
 {
     let settings = chosen_settings(found)?;
     command_of(settings, found.get_raw("plain")?)
@@ -98,9 +112,10 @@ fn asked_by<'a>(found: &ArgMatches<'a>) -> Option<Command<'a>>
 
 /// What the words ask for, or None where they are no command: `cover GRAMMAR FOREST`, `select GRAMMAR FOREST`,
 /// `print GRAMMAR` or `print GRAMMAR FOREST`, and among them `--NAME VALUE` or `--NAME=VALUE`. Behind a word `--`
-/// no word is an option.
+/// no word is an option. A GRAMMAR that begins with `@` is `@rv64i`, `@aarch64` or `@x86-64`, behind `--` too.
 pub fn read_words<'a>(alloc: Global, words: &'a [String]) -> Result<Option<Command<'a>>, NoMemory>
-    ensures { IfOk result (λ answer. option_map task_for answer ≡ command (map string_bytes words.now)) }
+    ensures exact { IfOk result (λ answer. option_map task_for answer ≡ command (map string_bytes words.now)) }
+    ensures short { IfOk result (λ answer. IfSome answer (λ command. IsShort (source_for command.source))) }
 {
     let Some(found) = take_apart(alloc, words)? else {
         return Ok(None);

@@ -1,5 +1,5 @@
-use Rattle.std.proofs.Common.{ap, unwrap_or, Some}
-use Rattle.sel_cli.specs.Words.{OverForest, forest_name}
+use Rattle.std.proofs.Common.{ap, Some}
+use Rattle.sel_cli.specs.Words.{OverForest, forest_name, grammar_name, later_name}
 use Rattle.sel_cli.specs.Names.{task_for}
 use Rattle.sel_cli.proofs.Endings.{job_ends, done_reads}
 use Rattle.sel_cli.proofs.run.serve_forest.Goals as goal
@@ -13,4 +13,4 @@ pub returns-in-Ok-clause-read : goal.returns-in-Ok-clause-read
 returns-in-Ok-clause-read g c =
     let done = c.answer.ensures.ends c.args.name.now in
     done_reads (task_for c.args.command) (record { before = g.S.Shelf.faults c.args.shelf.now; after = g.S.Shelf.faults c.accept_forest.new.shelf; last = g.S.Shelf.last c.accept_forest.new.shelf })
-    c.args.name.now (OverForest c.args.mode c.args.name.now) c.args.accepted.now.grammar (Some c.in-Ok.forest) (g.K.Sink.faults c.args.out.now) (g.K.Sink.faults c.answer.new.out) done.0 c.answer.result (ap (λ job. unwrap_or (forest_name job) c.args.command.grammar.now) c.requires.job) c.in-Ok.ensures.read done.1
+    (Some c.args.name.now) (OverForest c.args.mode c.args.name.now) c.args.accepted.now.grammar (Some c.in-Ok.forest) (g.K.Sink.faults c.args.out.now) (g.K.Sink.faults c.answer.new.out) done.0 c.answer.result (ap (λ job. later_name (grammar_name (task_for c.args.command)) (forest_name job)) c.requires.job) c.in-Ok.ensures.read done.1
