@@ -7,14 +7,16 @@ use Rattle.std.proofs.lemmas.List.Folds.{list_all-append}
 use Rattle.std.proofs.lemmas.Option.{slice_get_read}
 use Rattle.sel_grammar.specs.declared.grammar.Grammar.{Grammar}
 use Rattle.sel_grammar.specs.PlainTrees.{PlainTree}
-use Rattle.sel_forest.specs.declared.forest.Forest.{Forest}
 use Rattle.sel_forest.specs.declared.forest.Tree.{Tree}
 use Rattle.sel_forest.specs.Postorder.{IsPostorderOf}
-use Rattle.sel_forest.specs.Valid.{IsValidForest}
+use Rattle.sel_forest.specs.Valid.{IsValidTree}
 use Rattle.sel_work.specs.declared.answer.Answer.{Answer}
 use Rattle.sel_work.specs.declared.answer.Goal.{Goal}
 use Rattle.sel_work.specs.Answers.{IsTreeAnswer}
-use Rattle.sel_cli.specs.Output.{AreAnswers, AreAnswered, IsTreesAnswer, answer_text, answers_text, is_covered, has_second_costs}
+use Rattle.sel_cli.specs.Output.{AreAnswers, AreAnswered, IsTreesAnswer, answer_text, answers_text, goal_of, told_of, is_covered, has_second_costs}
+use Rattle.sel_cli.specs.Telling.{Tells, AreTold}
+use Rattle.sel_cli.specs.declared.told.Told.{Told}
+use Rattle.sel_cli.specs.declared.told.Telling.{Telling}
 
 AreAnswers-append : (g : Grammar) (goal : Goal) (trees : List Tree) (answers : List Answer) (tree : Tree) (answer : Answer)
     → AreAnswers g goal trees answers → IsTreesAnswer g goal tree answer → AreAnswers g goal (trees ++ tree ∷ []) (answers ++ answer ∷ [])
@@ -38,33 +40,63 @@ answers_text-append second number (a ∷ answers) answer =
     ∙ sym (append_assoc (answer_text second number a) (answers_text second (number + 1) answers) (answer_text second (number + 1 + length answers) answer))
     ∙ ap (λ n. (answer_text second number a ++ answers_text second (number + 1) answers) ++ answer_text second n answer) (omega arith)
 
--- an answer of whatever tree the nodes at this place of a valid forest spell is their tree's
-pub answer_of_tree : (g : Grammar) (goal : Goal) (forest : Forest) (trees : List Tree) (index : ℕ) (tree : Tree) (answer : Answer) → IsValidForest g forest
-    → trees ≡ forest.trees → index < length trees → tree ≡ slice_index_or trees index tree
-    → ((t : PlainTree) → IsPostorderOf tree t → IsTreeAnswer g goal t answer) → IsTreesAnswer g goal tree answer
-answer_of_tree g goal forest trees index tree answer valid same h is answers =
-    let at : slice_get trees index ≡ Some tree = slice_get_read trees (length trees) index tree refl h is in
-    let v = valid.trees index tree (subst (λ l. slice_get l index ≡ Some tree) same at) in
-    (v.plain, v.postorder, answers v.plain v.postorder)
+-- an answer of whatever tree the nodes spell is their tree's
+pub answer_of_tree : (g : Grammar) (goal : Goal) (tree : Tree) (answer : Answer) → IsValidTree g tree → ((t : PlainTree) → IsPostorderOf tree t → IsTreeAnswer g goal t answer) → IsTreesAnswer g goal tree answer
+answer_of_tree g goal tree answer valid answers = (valid.plain, valid.postorder, answers valid.plain valid.postorder)
 
--- the answer of one more tree is written
-pub answered_more : (g : Grammar) (goal : Goal) (trees : List Tree) (index : ℕ) (tree : Tree) (answer : Answer) (covered next : Bool) (before after : List ℕ)
-    → index < length trees → tree ≡ slice_index_or trees index tree → AreAnswered g goal (take index trees) covered before
-    → IsTreesAnswer g goal tree answer → (second : Bool) → second ≡ has_second_costs g → after ≡ before ++ answer_text second (index + 1) answer
-    → next ≡ is_covered answer → AreAnswered g goal (take (index + 1) trees) (covered && next) after
-answered_more g goal trees index tree answer covered next before after h is so_far is_answer second same given counted =
-    let written : after ≡ before ++ answer_text (has_second_costs g) (index + 1) answer = subst (λ s. after ≡ before ++ answer_text s (index + 1) answer) same given in
-    let long : length so_far.answers ≡ index = AreAnswers-length g goal (take index trees) so_far.answers so_far.answer_trees ∙ length-take-le index trees (omega arith) in
+-- no tree is told of yet
+pub none_told : (g : Grammar) (trees : List Tree) (telling : Telling) → Tells telling [] → telling.second ≡ has_second_costs g → AreTold g (take 0 trees) telling
+none_told g trees telling tells second = record { answers = []; answer_trees = tt; tells = tells; second_is = second }
+
+-- the answer of one more tree is told
+pub told_more : (g : Grammar) (goal : Goal) (trees : List Tree) (tree : Tree) (answer : Answer) (before after : Telling) → AreTold g trees before → goal ≡ goal_of before.told
+    → IsTreesAnswer g goal tree answer → ((answers : List Answer) → Tells before answers → Tells after (answers ++ answer ∷ []))
+    → after.told ≡ before.told → after.second ≡ before.second → AreTold g (trees ++ tree ∷ []) after
+told_more g goal trees tree answer before after so_far asked is tells same second = record {
+  answers = so_far.answers ++ answer ∷ [];
+  answer_trees = subst (λ t. AreAnswers g (goal_of t) (trees ++ tree ∷ []) (so_far.answers ++ answer ∷ [])) (sym same)
+      (AreAnswers-append g (goal_of before.told) trees so_far.answers tree answer so_far.answer_trees (subst (λ x. IsTreesAnswer g x tree answer) asked is));
+  tells = tells so_far.answers so_far.tells;
+  second_is = second ∙ so_far.second_is;
+}
+
+-- with the answer of the tree at this place, one more is told
+pub told_next : (g : Grammar) (trees : List Tree) (index : ℕ) (tree : Tree) (telling : Telling) → index < length trees → tree ≡ slice_index_or trees index tree
+    → AreTold g (take index trees ++ tree ∷ []) telling → AreTold g (take (index + 1) trees) telling
+told_next g trees index tree telling h is told =
     let there : take (index + 1) trees ≡ take index trees ++ tree ∷ [] = subst (λ t. take (index + 1) trees ≡ take index trees ++ t ∷ []) (sym is) (ap (λ k. take k trees) (add-one index) ∙ take-suc trees index tree h) in
-    let one : list_all is_covered (answer ∷ []) ≡ next = all_one (is_covered answer) ∙ sym counted in
-    subst (λ l. AreAnswered g goal l (covered && next) after) (sym there) (record {
-      answers = so_far.answers ++ answer ∷ [];
-      answer_trees = AreAnswers-append g goal (take index trees) so_far.answers tree answer so_far.answer_trees is_answer;
-      written = written ∙ ap (λ l. l ++ answer_text (has_second_costs g) (index + 1) answer) so_far.written
-          ∙ ap (λ n. answers_text (has_second_costs g) 1 so_far.answers ++ answer_text (has_second_costs g) n answer) (omega arith)
-          ∙ sym (answers_text-append (has_second_costs g) 1 so_far.answers answer);
-      all_covered = list_all-append is_covered so_far.answers (answer ∷ []) ∙ ap (λ b. b && list_all is_covered (answer ∷ [])) so_far.all_covered ∙ ap (λ b. covered && b) one;
+    subst (λ l. AreTold g l telling) (sym there) told
+
+-- as many answers are told as there are trees
+pub told_count : (g : Grammar) (trees : List Tree) (telling : Telling) → AreTold g trees telling → telling.count ≡ length trees
+told_count g trees telling told = (told.tells).count ∙ AreAnswers-length g (goal_of telling.told) trees told.answers told.answer_trees
+
+-- the answers of all trees are told
+pub all_told : (g : Grammar) (told : Told) (trees : List Tree) (telling : Telling) (covered : Bool) (bytes : List ℕ) → AreTold g trees telling → telling.told ≡ told
+    → ((answers : List Answer) → Tells telling answers → (bytes ≡ told_of telling.told telling.second answers) × (list_all is_covered answers ≡ covered))
+    → AreAnswered g told trees covered bytes
+all_told g told trees telling covered bytes all same output =
+    let put = output all.answers all.tells in
+    subst (λ t. AreAnswered g t trees covered bytes) same (record {
+      answers = all.answers;
+      answer_trees = all.answer_trees;
+      written = subst (λ s. bytes ≡ told_of telling.told s all.answers) all.second_is put.0;
+      all_covered = put.1;
     })
+
+-- the text of one more answer stands behind those before it
+pub text_more : (second : Bool) (number : ℕ) (before after : List ℕ) (answers : List Answer) (answer : Answer) → length answers + 1 ≡ number
+    → before ≡ answers_text second 1 answers → after ≡ before ++ answer_text second number answer → after ≡ answers_text second 1 (answers ++ answer ∷ [])
+text_more second number before after answers answer long so_far more =
+    more ∙ ap (λ l. l ++ answer_text second number answer) so_far
+    ∙ ap (λ n. answers_text second 1 answers ++ answer_text second n answer) (omega arith)
+    ∙ sym (answers_text-append second 1 answers answer)
+
+-- one more answer, and all are covers or texts if all before it are and this one is
+pub covered_more : (answers : List Answer) (answer : Answer) (before one : Bool) → list_all is_covered answers ≡ before → one ≡ is_covered answer
+    → list_all is_covered (answers ++ answer ∷ []) ≡ (before && one)
+covered_more answers answer before one so_far same =
+    list_all-append is_covered answers (answer ∷ []) ∙ ap (λ b. b && list_all is_covered (answer ∷ [])) so_far ∙ ap (λ b. before && b) (all_one (is_covered answer) ∙ sym same)
   where
     all_one : (b : Bool) → (b && true) ≡ b
     all_one true = refl

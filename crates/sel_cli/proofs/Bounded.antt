@@ -6,8 +6,7 @@ use Rattle.sel_cli.specs.declared.settings.Bounds.{Bounds}
 use Rattle.sel_cli.specs.declared.settings.Settings.{Settings}
 use Rattle.sel_cli.specs.Settings.{is_number, is_within, number_within, chosen_value, chosen_settings, workers_bounds, states_bounds, rows_bounds, seed_bounds, trees_bounds, size_bounds, AreWithinBounds}
 use Rattle.sel_cli.specs.Split.{Parts, parts_of, values_for}
-use Rattle.sel_cli.specs.Words.{Job, GrammarSource, Task, mode_of, job_of, source_of, task_of, asked_by, command}
-use Rattle.sel_cli.specs.declared.words.Mode.{Mode}
+use Rattle.sel_cli.specs.Words.{Job, GrammarSource, Task, job_of, source_of, task_of, asked_by, command}
 
 -- what is made of a value is made of some
 from_some : {A B : Type 0} (f : A → Option B) (o : Option A) (y : B) → option_and_then f o ≡ Some y → (x : A) × (o ≡ Some x) × (f x ≡ Some y)
@@ -22,17 +21,26 @@ and_both : (a b : Bool) → (a && b) ≡ true → (a ≡ true) × (b ≡ true)
 and_both true b e = (refl, e)
 and_both false b e = absurd (cc)
 
-within_if : (test : Bool) (n m : ℕ) (greatest : ℕ) → (test ≡ true → n ≤ greatest) → (if test then Some n else None) ≡ Some m → m ≤ greatest
-within_if true n m greatest h e = let low = h refl in let same : n ≡ m = cc in omega arith
-within_if false n m greatest h e = absurd (cc)
+-- a number is within the bounds
+abbrev IsBetween : Bounds → ℕ → Type 0
+IsBetween bounds n = (bounds.least ≤ n) × (n ≤ bounds.greatest)
 
-number_bounded : (bounds : Bounds) (text : List ℕ) (n : ℕ) → number_within bounds text ≡ Some n → n ≤ bounds.greatest
+within_if : (test : Bool) (n m : ℕ) (bounds : Bounds) → (test ≡ true → IsBetween bounds n) → (if test then Some n else None) ≡ Some m → IsBetween bounds m
+within_if true n m bounds h e = let same : n ≡ m = cc in subst (IsBetween bounds) same (h refl)
+within_if false n m bounds h e = absurd (cc)
+
+is_between : (bounds : Bounds) (n : ℕ) → is_within bounds n ≡ true → IsBetween bounds n
+is_between bounds n e =
+    let both = and_both (nat_le bounds.least n) (nat_le n bounds.greatest) e in
+    (leb-true bounds.least n both.0, leb-true n bounds.greatest both.1)
+
+number_bounded : (bounds : Bounds) (text : List ℕ) (n : ℕ) → number_within bounds text ≡ Some n → IsBetween bounds n
 number_bounded bounds text n e =
-    within_if (is_number text && is_within bounds (digits_value 10 text)) (digits_value 10 text) n bounds.greatest
-    (λ t. leb-true (digits_value 10 text) bounds.greatest (and_both (nat_le bounds.least (digits_value 10 text)) _ (and_both (is_number text) _ t).1).1) e
+    within_if (is_number text && is_within bounds (digits_value 10 text)) (digits_value 10 text) n bounds
+    (λ t. is_between bounds (digits_value 10 text) (and_both (is_number text) (is_within bounds (digits_value 10 text)) t).1) e
 
-value_bounded : (bounds : Bounds) (values : List (List ℕ)) (n : ℕ) → bounds.default ≤ bounds.greatest → chosen_value bounds values ≡ Some n → n ≤ bounds.greatest
-value_bounded bounds [] n h e = let same : bounds.default ≡ n = cc in omega arith
+value_bounded : (bounds : Bounds) (values : List (List ℕ)) (n : ℕ) → IsBetween bounds bounds.default → chosen_value bounds values ≡ Some n → IsBetween bounds n
+value_bounded bounds [] n h e = let same : bounds.default ≡ n = cc in subst (IsBetween bounds) same h
 value_bounded bounds (value ∷ []) n h e = number_bounded bounds value n e
 value_bounded bounds (value ∷ next ∷ more) n h e = absurd (cc)
 
@@ -43,7 +51,14 @@ made w s r d t z =
     record { workers = workers; states = states; rows = rows; seed = seed; trees = trees; size = size })
     z) t) d) r) s) w
 
-made_parts : (w s r d t z : Option ℕ) (settings : Settings) → made w s r d t z ≡ Some settings → (s ≡ Some settings.states) × (r ≡ Some settings.rows)
+-- where there are settings, each of the values is there
+record AreThese (s r t z : Option ℕ) (settings : Settings) : Type 0 where
+  states : s ≡ Some settings.states
+  rows : r ≡ Some settings.rows
+  trees : t ≡ Some settings.trees
+  size : z ≡ Some settings.size
+
+made_parts : (w s r d t z : Option ℕ) (settings : Settings) → made w s r d t z ≡ Some settings → AreThese s r t z settings
 made_parts None s r d t z settings e = absurd (cc)
 made_parts (Some w) None r d t z settings e = absurd (cc)
 made_parts (Some w) (Some s) None d t z settings e = absurd (cc)
@@ -53,31 +68,31 @@ made_parts (Some w) (Some s) (Some r) (Some d) (Some t) None settings e = absurd
 made_parts (Some w) (Some s) (Some r) (Some d) (Some t) (Some z) settings e =
     let whole : Settings = record { workers = w; states = s; rows = r; seed = d; trees = t; size = z } in
     let same : whole ≡ settings = cc in
-    (ap (λ (x : Settings). Some x.states) same, ap (λ (x : Settings). Some x.rows) same)
+    record {
+      states = ap (λ (x : Settings). Some x.states) same;
+      rows = ap (λ (x : Settings). Some x.rows) same;
+      trees = ap (λ (x : Settings). Some x.trees) same;
+      size = ap (λ (x : Settings). Some x.size) same;
+    }
 
 chosen_bounded : (values : List ℕ → List (List ℕ)) (settings : Settings) → chosen_settings values ≡ Some settings → AreWithinBounds settings
 chosen_bounded values settings e =
     let parts = made_parts (chosen_value workers_bounds (values (codes "workers"))) (chosen_value states_bounds (values (codes "states"))) (chosen_value rows_bounds (values (codes "rows")))
     (chosen_value seed_bounds (values (codes "seed"))) (chosen_value trees_bounds (values (codes "trees"))) (chosen_value size_bounds (values (codes "size"))) settings e in
     record {
-      few_states = value_bounded states_bounds (values (codes "states")) settings.states default_state parts.0;
-      few_rows = value_bounded rows_bounds (values (codes "rows")) settings.rows default_row parts.1;
+      few_states = (value_bounded states_bounds (values (codes "states")) settings.states (omega arith, omega arith) parts.states).1;
+      few_rows = (value_bounded rows_bounds (values (codes "rows")) settings.rows (omega arith, omega arith) parts.rows).1;
+      few_trees = (value_bounded trees_bounds (values (codes "trees")) settings.trees (omega arith, omega arith) parts.trees).1;
+      some_size = (value_bounded size_bounds (values (codes "size")) settings.size (omega arith, omega arith) parts.size).0;
+      small_size = (value_bounded size_bounds (values (codes "size")) settings.size (omega arith, omega arith) parts.size).1;
     }
-  where
-    default_state : states_bounds.default ≤ states_bounds.greatest
-    default_state = omega arith
-
-    default_row : rows_bounds.default ≤ rows_bounds.greatest
-    default_row = omega arith
 
 task_settings : (settings : Settings) (plain : List (List ℕ)) (task : Task) → task_of settings plain ≡ Some task → settings ≡ task.settings
 task_settings settings [] task e = absurd (cc)
 task_settings settings (word ∷ []) task e = absurd (cc)
 task_settings settings (mode ∷ grammar ∷ words) task e =
     let job_task : Job → Option Task = λ job. option_map (λ source. record { job = job; grammar = grammar; source = source; settings = settings }) (source_of grammar) in
-    let mode_task : Mode → Option Task = λ m. option_and_then job_task (job_of m words) in
-    let m = from_some mode_task (mode_of mode) task e in
-    let j = from_some job_task (job_of m.0 words) task m.2 in
+    let j = from_some job_task (job_of settings mode words) task e in
     let g = from_mapped (λ (source : GrammarSource). let t : Task = record { job = j.0; grammar = grammar; source = source; settings = settings } in t) (source_of grammar) task j.2 in
     ap (λ (t : Task). t.settings) g.2
 

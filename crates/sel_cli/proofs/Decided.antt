@@ -16,14 +16,16 @@ use Rattle.sel_forest.specs.ForestText.{SpellsForest, IsForestFault}
 use Rattle.sel_forest.proofs.OneForest.{forest_one}
 use Rattle.sel_forest.proofs.OneFault.{fault_one as forest_fault_one, not_forest_and_fault}
 use Rattle.sel_forest.proofs.Roots.{plain_one}
-use Rattle.sel_cli.specs.Words.{Job, PrintGrammar, OverForest, GrammarSource, Held, Shipped, Task, forest_name}
+use Rattle.sel_cli.specs.Words.{Job, PrintGrammar, Make, OverForest, GrammarSource, Held, Shipped, Task, forest_name}
 use Rattle.sel_cli.specs.declared.words.Mode.TheVariants as mode
 use Rattle.sel_work.specs.declared.answer.Answer.{Answer}
 use Rattle.sel_work.specs.declared.answer.Goal.{Goal}
-use Rattle.sel_work.specs.declared.answer.Goal.TheVariants as goals
 use Rattle.sel_work.specs.Answers.{IsTreeAnswer}
 use Rattle.sel_work.proofs.OneAnswer.{answer_one}
-use Rattle.sel_cli.specs.Output.{AreAnswers, AreAnswered, IsTreesAnswer, IsOutput, is_covered}
+use Rattle.sel_gen.proofs.OneForest.{made_one_forest}
+use Rattle.sel_cli.specs.declared.told.Told.{Told}
+use Rattle.sel_cli.specs.declared.told.Told.TheVariants as told
+use Rattle.sel_cli.specs.Output.{AreAnswers, AreAnswered, IsTreesAnswer, IsOutput, goal_of, is_covered}
 use Rattle.sel_cli.specs.Texts.{Request, IsTold, MayBe, IsGrammarText, HasGrammarText, HasForestText, AcceptsGrammar, Accepts, IsTooLong, IsRefusedGrammar, RefusesGrammar, RefusesForest, IsWhole, grammar_limit, forest_limit}
 use Rattle.sel_cli.specs.Ends.{Reads, EndsFor, Decides, IsExcused, IsAnswered, finished}
 use Rattle.sel_cli.specs.declared.status.Status.{Status}
@@ -176,17 +178,24 @@ same_covered g goal (t ∷ trees) (x ∷ xs) [] p q = absurd q
 same_covered g goal (t ∷ trees) (x ∷ xs) (y ∷ ys) p q =
     ap (λ c. c && list_all is_covered xs) (same_answer g goal t x y p.0 q.0) ∙ ap (λ c. is_covered y && c) (same_covered g goal trees xs ys p.1 q.1)
 
-same_answered : (g : Grammar) (goal : Goal) (trees : List Tree) (a b : Bool) (bytes other : List ℕ) → AreAnswered g goal trees a bytes → AreAnswered g goal trees b other → a ≡ b
-same_answered g goal trees a b bytes other p q = sym p.all_covered ∙ same_covered g goal trees p.answers q.answers p.answer_trees q.answer_trees ∙ q.all_covered
+same_answered : (g : Grammar) (told : Told) (trees : List Tree) (a b : Bool) (bytes other : List ℕ)
+    → AreAnswered g told trees a bytes → AreAnswered g told trees b other → a ≡ b
+same_answered g told trees a b bytes other p q = sym p.all_covered ∙ same_covered g (goal_of told) trees p.answers q.answers p.answer_trees q.answer_trees ∙ q.all_covered
 
 -- a job's output tells whether every tree is covered
 same_end : (job : Job) (g : Grammar) (forest : Option Forest) (a b : Bool) (bytes other : List ℕ) → IsOutput job g forest a bytes → IsOutput job g forest b other → a ≡ b
 same_end PrintGrammar g None a b bytes other p q = p.1 ∙ sym q.1
 same_end PrintGrammar g (Some forest) a b bytes other p q = absurd p
+same_end (Make seed trees size) g None a b bytes other (forest, made, p) (again, made', q) =
+    let same : again ≡ forest = made_one_forest g seed trees size again forest made' made in
+    same_answered g told.Summary forest.trees a b bytes other p (subst (λ (f : Forest). AreAnswered g told.Summary f.trees b other) same q)
+same_end (Make seed trees size) g (Some forest) a b bytes other p q = absurd p
 same_end (OverForest mode.Cover name) g None a b bytes other p q = absurd p
-same_end (OverForest mode.Cover name) g (Some forest) a b bytes other p q = same_answered g goals.Cover forest.trees a b bytes other p q
+same_end (OverForest mode.Cover name) g (Some forest) a b bytes other p q = same_answered g told.Covers forest.trees a b bytes other p q
 same_end (OverForest mode.Select name) g None a b bytes other p q = absurd p
-same_end (OverForest mode.Select name) g (Some forest) a b bytes other p q = same_answered g goals.Text forest.trees a b bytes other p q
+same_end (OverForest mode.Select name) g (Some forest) a b bytes other p q = same_answered g told.Texts forest.trees a b bytes other p q
+same_end (OverForest mode.Summary name) g None a b bytes other p q = absurd p
+same_end (OverForest mode.Summary name) g (Some forest) a b bytes other p q = same_answered g told.Summary forest.trees a b bytes other p q
 same_end (OverForest mode.Print name) g None a b bytes other p q = absurd p
 same_end (OverForest mode.Print name) g (Some forest) a b bytes other p q = p.1 ∙ sym q.1
 

@@ -1,4 +1,5 @@
 pub mod Answering
+pub mod Summing
 pub mod Endings
 pub mod Decided
 pub mod Tells

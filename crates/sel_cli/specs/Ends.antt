@@ -132,6 +132,6 @@ ReadsFor wanted reads Uncovered = IfSome (option_and_then last_name wanted) (Was
 ReadsFor wanted reads WriteFault = IfSome (option_and_then last_name wanted) (WasRead reads)
 ReadsFor wanted reads _ = Unit {0}
 
--- the words need no text of the shelf: they are no command, or a shipped grammar is printed
+-- the words need no text of the shelf: they are no command, or a shipped grammar is printed, or a forest made of it
 abbrev pub NeedsNoText : Option Task → Type 0
 NeedsNoText wanted = option_and_then last_name wanted ≡ None

@@ -5,6 +5,7 @@ pub mod Names
 pub mod CommandLine
 pub mod Found
 pub mod Output
+pub mod Telling
 pub mod Texts
 pub mod Code
 pub mod Lines

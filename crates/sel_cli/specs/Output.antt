@@ -1,10 +1,10 @@
--- What is written: an answer for each tree, in order, or a grammar or forest in print.
-use Rattle.std.specs.Prelude.{◌≡◌, ℕ, ◌+◌, ◌-◌, Bool, true, false, not, ◌==◌, Option, Some, None, List, [], ◌∷◌, ◌++◌, length, slice_get, codes, decimal, if◌then◌else◌}
+-- What is written: an answer for each tree, in order, a summary of all, or a grammar or forest in print.
+use Rattle.std.specs.Prelude.{◌≡◌, ℕ, ◌+◌, ◌-◌, Bool, true, false, not, ◌==◌, Option, Some, None, List, [], ◌∷◌, ◌++◌, length, slice_get, count_by, codes, decimal, if◌then◌else◌}
 use Rattle.std.specs.Fmt.{signed_decimal}
 use Rattle.std.specs.List.{list_all, list_any}
 use Rattle.sel_grammar.specs.declared.grammar.Grammar.{Grammar}
 use Rattle.sel_grammar.specs.declared.grammar.Rule.{Rule}
-use Rattle.sel_grammar.specs.Costs.{Cost}
+use Rattle.sel_grammar.specs.Costs.{Cost, no_cost, ◌⊕◌}
 use Rattle.sel_grammar.specs.PlainTrees.{PlainTree}
 use Rattle.sel_forest.specs.declared.forest.Forest.{Forest}
 use Rattle.sel_forest.specs.declared.forest.Tree.{Tree}
@@ -17,7 +17,10 @@ use Rattle.sel_work.specs.declared.answer.Answer.TheVariants as answers
 use Rattle.sel_work.specs.declared.answer.Goal.{Goal}
 use Rattle.sel_work.specs.declared.answer.Goal.TheVariants as goals
 use Rattle.sel_work.specs.Answers.{IsTreeAnswer}
-use Rattle.sel_cli.specs.Words.{Job, PrintGrammar, OverForest}
+use Rattle.sel_gen.specs.Made.{IsMadeForest}
+use Rattle.sel_cli.specs.Words.{Job, PrintGrammar, Make, OverForest}
+use Rattle.sel_cli.specs.declared.told.Told.{Told}
+use Rattle.sel_cli.specs.declared.told.Told.TheVariants as told
 use Rattle.sel_cli.specs.declared.words.Mode.TheVariants as mode
 
 -- the answer of the tree that the nodes spell
@@ -84,17 +87,53 @@ abbrev pub answers_text : Bool → ℕ → List Answer → List ℕ
 answers_text second number [] = []
 answers_text second number (answer ∷ answers) = answer_text second number answer ++ answers_text second (number + 1) answers
 
--- the bytes are the answers of trees, numbered from 1, and `covered` tells whether every answer is a cover or a text
-pub record AreAnswered (g : Grammar) (goal : Goal) (trees : List Tree) (covered : Bool) (bytes : List ℕ) : Type 0 where
+-- what the answer adds to the sum of costs
+abbrev pub cost_of : Answer → Cost
+cost_of NoCover = no_cost
+cost_of (answers.Cover cover) = cover.cost
+cost_of (Text c text) = c
+cost_of (TooLong c) = c
+
+abbrev pub sum_of_costs : List Answer → Cost
+sum_of_costs [] = no_cost
+sum_of_costs (answer ∷ answers) = cost_of answer ⊕ sum_of_costs answers
+
+-- a line: a word, and what is told of it
+abbrev pub told_line : List ℕ → List ℕ → List ℕ
+told_line word text = word ++ (text ++ codes "\n")
+
+-- how many trees there are, how many of them have no cover, and what the covers cost together
+abbrev pub summary_text : Bool → List Answer → List ℕ
+summary_text second answers =
+    told_line (codes "trees ") (decimal (length answers))
+    ++ (told_line (codes "uncovered ") (decimal (count_by (λ answer. not (is_covered answer)) answers))
+    ++ told_line (codes "cost ") (cost_text second (sum_of_costs answers)))
+
+-- what is asked of each tree
+abbrev pub goal_of : Told → Goal
+goal_of told.Covers = goals.Cover
+goal_of told.Texts = goals.Text
+goal_of told.Summary = goals.Cover
+
+-- what is written of the answers of a forest's trees: each by itself, numbered from 1, or a summary
+abbrev pub told_of : Told → Bool → List Answer → List ℕ
+told_of told.Covers second answers = answers_text second 1 answers
+told_of told.Texts second answers = answers_text second 1 answers
+told_of told.Summary second answers = summary_text second answers
+
+-- the bytes tell the answers of the trees, and `covered` tells whether every answer is a cover or a text
+pub record AreAnswered (g : Grammar) (told : Told) (trees : List Tree) (covered : Bool) (bytes : List ℕ) : Type 0 where
   pub answers : List Answer
-  pub answer_trees : AreAnswers g goal trees answers
-  pub written : bytes ≡ answers_text (has_second_costs g) 1 answers
+  pub answer_trees : AreAnswers g (goal_of told) trees answers
+  pub written : bytes ≡ told_of told (has_second_costs g) answers
   pub all_covered : list_all is_covered answers ≡ covered
 
--- The defined output of a job over a grammar and, for most, a forest, and whether every tree is covered, and its text not too long.
+-- The defined output of a job over a grammar and, for most, a forest that was read, and whether every tree is covered, and its text not too long.
 abbrev pub IsOutput : Job → Grammar → Option Forest → Bool → List ℕ → Type 0
 IsOutput PrintGrammar g None covered bytes = (bytes ≡ printed g) × (covered ≡ true)
-IsOutput (OverForest mode.Cover name) g (Some forest) covered bytes = AreAnswered g goals.Cover forest.trees covered bytes
-IsOutput (OverForest mode.Select name) g (Some forest) covered bytes = AreAnswered g goals.Text forest.trees covered bytes
+IsOutput (Make seed trees size) g None covered bytes = (forest : Forest) × IsMadeForest g seed trees size forest × AreAnswered g told.Summary forest.trees covered bytes
+IsOutput (OverForest mode.Cover name) g (Some forest) covered bytes = AreAnswered g told.Covers forest.trees covered bytes
+IsOutput (OverForest mode.Select name) g (Some forest) covered bytes = AreAnswered g told.Texts forest.trees covered bytes
+IsOutput (OverForest mode.Summary name) g (Some forest) covered bytes = AreAnswered g told.Summary forest.trees covered bytes
 IsOutput (OverForest mode.Print name) g (Some forest) covered bytes = IsPrinted g forest bytes × (covered ≡ true)
 IsOutput _ _ _ _ _ = ⊥

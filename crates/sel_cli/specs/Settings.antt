@@ -54,7 +54,10 @@ chosen_settings values =
     (chosen_value size_bounds (values (codes "size")))) (chosen_value trees_bounds (values (codes "trees")))) (chosen_value seed_bounds (values (codes "seed"))))
     (chosen_value rows_bounds (values (codes "rows")))) (chosen_value states_bounds (values (codes "states")))) (chosen_value workers_bounds (values (codes "workers")))
 
--- the automaton's numbers of states and transitions are within their bounds
+-- the automaton's numbers of states and transitions, and a made forest's of trees and their size, are within their bounds
 pub record AreWithinBounds (settings : Settings) : Type 0 where
   pub few_states : settings.states ≤ states_bounds.greatest
   pub few_rows : settings.rows ≤ rows_bounds.greatest
+  pub few_trees : settings.trees ≤ trees_bounds.greatest
+  pub some_size : size_bounds.least ≤ settings.size
+  pub small_size : settings.size ≤ size_bounds.greatest

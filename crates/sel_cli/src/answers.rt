@@ -1,35 +1,24 @@
-// The answers of a forest, as text.
-ghost use Rattle.std.specs.Prelude.{◌≡◌, ◌++◌, ◌+◌, ◌<◌, ℕ, codes, decimal, OnOk, IfOk, not, ◌==◌};
+// The answer of a tree, as text.
+ghost use Rattle.std.specs.Prelude.{◌≡◌, ◌++◌, OnOk, not, ◌==◌};
 ghost use Rattle.std.specs.List.{list_any};
-ghost use Rattle.sel_forest.specs.Valid.{IsValidForest};
-ghost use Rattle.sel_items.specs.Laws.{IsAcceptedForm};
-ghost use Rattle.sel_cli.specs.Settings.{AreWithinBounds};
-ghost use Rattle.sel_cli.specs.Output.{AreAnswered, answer_text, told_text, cost_line, cost_text, spaced, line_end_behind, is_covered, has_second_costs};
+ghost use Rattle.sel_cli.specs.Output.{answer_text, told_text, cost_line, cost_text, spaced, line_end_behind, is_covered, has_second_costs};
 
-use crate::output::Output;
-use crate::settings::Settings;
 use crate::text::{put, put_number};
-use crate::texts::Accepted;
 use itoa::Buffer;
-use sel_auto::PrivateAutomaton;
-use sel_base::{Gate, NoMemory, Pair, Steps};
-use sel_expand::Expander;
-use sel_forest::Forest;
+use sel_base::{NoMemory, Pair};
 use sel_grammar::Grammar;
-use sel_items::Automaton;
-use sel_work::{Answer, Goal, answer_tree};
-use std::alloc::Global;
-use std::marker::Brand;
-use std::sync::ledger::{Blank, Ledger};
+use sel_work::Answer;
 
-fn put_cost(text: &mut Vec<u8>, second: bool, cost: Pair) -> Result<(), NoMemory>
-    ensures { OnOk result (text.new.items ≡ text.old.items ++ cost_text second cost) }
+/// Puts a cost, or a sum of costs, of these two numbers.
+pub fn put_cost(text: &mut Vec<u8>, second: bool, units: u128, ties: i128) -> Result<(), NoMemory>
+    ensures { OnOk result (text.new.items ≡ text.old.items ++ cost_text second (record { first = units; second = ties })) }
 {
-    put_number(text, cost.first)?;
+    let mut buffer = Buffer::new();
+    put(text, buffer.format(units).as_bytes())?;
     if second {
         let mut buffer = Buffer::new();
         put(text, b",")?;
-        put(text, buffer.format(cost.second).as_bytes())?;
+        put(text, buffer.format(ties).as_bytes())?;
     }
     Ok(())
 }
@@ -38,7 +27,7 @@ fn put_cost_line(text: &mut Vec<u8>, second: bool, cost: Pair) -> Result<(), NoM
     ensures { OnOk result (text.new.items ≡ text.old.items ++ cost_line second cost) }
 {
     put(text, b" cost ")?;
-    put_cost(text, second, cost)?;
+    put_cost(text, second, cost.first as u128, cost.second as i128)?;
     put(text, b"\n")?;
     Ok(())
 }
@@ -86,7 +75,8 @@ fn put_told(text: &mut Vec<u8>, second: bool, answer: &Answer) -> Result<(), NoM
     }
 }
 
-fn put_answer(
+/// Puts the answer of the tree of this number.
+pub fn put_answer(
     text: &mut Vec<u8>,
     second: bool,
     number: u64,
@@ -99,7 +89,8 @@ fn put_answer(
     put_told(text, second, answer)
 }
 
-fn is_covered(answer: &Answer) -> bool
+/// The answer is a cover or a text.
+pub fn is_covered(answer: &Answer) -> bool
     ensures { result ≡ is_covered answer.now }
 {
     match answer {
@@ -108,7 +99,8 @@ fn is_covered(answer: &Answer) -> bool
     }
 }
 
-fn has_second_costs(grammar: &Grammar) -> bool
+/// Some rule has a second cost.
+pub fn has_second_costs(grammar: &Grammar) -> bool
     ensures { result ≡ has_second_costs grammar.now }
 {
     grammar
@@ -116,95 +108,4 @@ fn has_second_costs(grammar: &Grammar) -> bool
         .as_slice()
         .iter()
         .any(|rule| rule.cost.second != 0)
-}
-
-// Answers each tree of the forest by the automaton, in order.
-fn answer_by<A: Automaton, L: Ledger, G: Gate>(
-    automaton: &mut A,
-    alloc: Global,
-    accepted: &Accepted,
-    forest: &Forest,
-    goal: Goal,
-    steps: &mut Steps<L>,
-    gate: &G,
-) -> Result<Output, NoMemory>
-    requires normal { A.normal automaton.old ≡ accepted.now.normal }
-    requires form { IsAcceptedForm accepted.now.grammar accepted.now.normal }
-    requires valid { IsValidForest accepted.now.grammar forest.now }
-    ensures { IfOk result (λ output. AreAnswered accepted.now.grammar goal forest.now.trees output.covered output.text.items) }
-{
-    let grammar = &accepted.grammar;
-    let normal = &accepted.normal;
-    let second = has_second_costs(grammar);
-    let mut expander = Expander::new(alloc);
-    let mut text = Vec::new(alloc);
-    let mut covered = true;
-    'trees: for (index, tree) in forest.trees.as_slice().iter().enumerate() {
-        gate.enter(0, index as u32);
-        let answer = answer_tree(
-            automaton,
-            &mut expander,
-            alloc,
-            grammar,
-            normal,
-            tree,
-            goal,
-            steps,
-        )?;
-        put_answer(&mut text, second, index as u64 + 1, &answer)?;
-        covered &= is_covered(&answer);
-        gate.leave(0, index as u32);
-    }
-    Ok(Output { text, covered })
-}
-
-// Makes the automaton, and counts its steps over the blank.
-fn answer_counted<L: Ledger, G: Gate>(
-    alloc: Global,
-    accepted: &Accepted,
-    settings: Settings,
-    forest: &Forest,
-    goal: Goal,
-    gate: &G,
-    blank: Blank,
-) -> Result<Output, NoMemory>
-    requires form { IsAcceptedForm accepted.now.grammar accepted.now.normal }
-    requires settings { AreWithinBounds settings }
-    requires valid { IsValidForest accepted.now.grammar forest.now }
-    requires name { blank.name ≡ L.name }
-    requires parts { blank.parts ≡ L.parts }
-    requires one { 0 < blank.parts }
-    ensures { IfOk result (λ output. AreAnswered accepted.now.grammar goal forest.now.trees output.covered output.text.items) }
-{
-    let states = settings.states as u32;
-    let rows = settings.rows as u32;
-    let mut automaton = PrivateAutomaton::new(alloc, &accepted.normal, states, rows)?;
-    let mut steps = Steps::<L>::new(blank);
-    answer_by(
-        &mut automaton,
-        alloc,
-        accepted,
-        forest,
-        goal,
-        &mut steps,
-        gate,
-    )
-}
-
-/// Answers each tree of the forest, in order, by one automaton for them all, with as many states and
-/// transitions as the settings say. The one worker passes the gate round each tree.
-pub fn answer_forest<G: Gate>(
-    alloc: Global,
-    accepted: &Accepted,
-    settings: Settings,
-    forest: &Forest,
-    goal: Goal,
-    gate: &G,
-) -> Result<Output, NoMemory>
-    requires form { IsAcceptedForm accepted.now.grammar accepted.now.normal }
-    requires settings { AreWithinBounds settings }
-    requires valid { IsValidForest accepted.now.grammar forest.now }
-    ensures { IfOk result (λ output. AreAnswered accepted.now.grammar goal forest.now.trees output.covered output.text.items) }
-{
-    answer_counted::<Brand, G>(alloc, accepted, settings, forest, goal, gate, Blank::new(1))
 }

@@ -1,17 +1,20 @@
-//! Reads a grammar and a forest by name, and writes the cheapest cover of each tree, the text that it
-//! expands to, or the grammar or the forest in print.
+//! Reads a grammar and a forest by name, or makes a forest, and writes the cheapest cover of each tree, the
+//! text that it expands to, a summary of the covers, or the grammar or the forest in print.
 #![tactic(auto)]
 
 mod answers;
 mod command_line;
+mod forest_answers;
 mod lines;
 mod output;
 mod report;
 mod run;
 mod settings;
 mod status;
+mod sums;
 mod text;
 mod texts;
+mod told;
 mod words;
 
 use run::run;
@@ -53,6 +56,8 @@ mod tests;
 mod tests_grammars;
 #[cfg(test)]
 mod tests_select;
+#[cfg(test)]
+mod tests_summary;
 #[cfg(test)]
 mod tests_targets;
 #[cfg(test)]

@@ -3,18 +3,19 @@ ghost use Rattle.std.specs.Prelude.{◌≡◌, ℕ, List, Some, None, IfOk};
 ghost use Rattle.sel_forest.specs.Valid.{IsValidForest};
 ghost use Rattle.sel_items.specs.Laws.{IsAcceptedForm};
 ghost use Rattle.sel_cli.specs.Settings.{AreWithinBounds};
-ghost use Rattle.sel_cli.specs.Words.{PrintGrammar, OverForest};
+ghost use Rattle.sel_cli.specs.Words.{PrintGrammar, Make, OverForest};
 ghost use Rattle.sel_cli.specs.Output.{IsOutput};
 
-use crate::answers::answer_forest;
+use crate::forest_answers::answer_forest;
 use crate::settings::Settings;
 use crate::texts::Accepted;
+use crate::told::Told;
 use crate::words::Mode;
 use sel_base::{Gate, NoMemory};
 use sel_forest::{Forest, print_forest};
+use sel_gen::make_forest;
 use sel_grammar::Grammar;
 use sel_grammar_text::print_grammar;
-use sel_work::Goal;
 use std::alloc::Global;
 
 /// The bytes that are written, and whether every tree is covered, and its text not too long.
@@ -46,7 +47,7 @@ fn printed_forest(alloc: Global, grammar: &Grammar, forest: &Forest) -> Result<O
     })
 }
 
-/// What is written over a forest: the answers of its trees, or the forest in print.
+/// What is written over a forest: the answers of its trees, their summary, or the forest in print.
 pub fn forest_output<G: Gate>(
     alloc: Global,
     mode: Mode,
@@ -61,8 +62,26 @@ pub fn forest_output<G: Gate>(
     ensures { (name : List ℕ) → IfOk result (λ output. IsOutput (OverForest mode name) accepted.now.grammar (Some forest.now) output.covered output.text.items) }
 {
     match mode {
-        Mode::Cover => answer_forest(alloc, accepted, settings, forest, Goal::Cover, gate),
-        Mode::Select => answer_forest(alloc, accepted, settings, forest, Goal::Text, gate),
+        Mode::Cover => answer_forest(alloc, accepted, settings, forest, Told::Covers, gate),
+        Mode::Select => answer_forest(alloc, accepted, settings, forest, Told::Texts, gate),
+        Mode::Summary => answer_forest(alloc, accepted, settings, forest, Told::Summary, gate),
         Mode::Print => printed_forest(alloc, &accepted.grammar, forest),
     }
+}
+
+/// The summary of the forest that the settings make.
+pub fn made_output<G: Gate>(
+    alloc: Global,
+    accepted: &Accepted,
+    settings: Settings,
+    gate: &G,
+) -> Result<Output, NoMemory>
+    requires form { IsAcceptedForm accepted.now.grammar accepted.now.normal }
+    requires settings { AreWithinBounds settings }
+    ensures { IfOk result (λ output. IsOutput (Make settings.seed settings.trees settings.size) accepted.now.grammar None output.covered output.text.items) }
+{
+    let trees = settings.trees as u32;
+    let size = settings.size as u32;
+    let forest = make_forest(alloc, &accepted.grammar, settings.seed, trees, size)?;
+    answer_forest(alloc, accepted, settings, &forest, Told::Summary, gate)
 }

@@ -7,7 +7,7 @@ ghost use Rattle.sel_forest.specs.Valid.{IsValidForest};
 ghost use Rattle.sel_forest.specs.declared.forest.Forest.{Forest as AnyForest};
 ghost use Rattle.sel_items.specs.Laws.{IsAcceptedForm};
 ghost use Rattle.sel_cli.specs.declared.status.Status.{Status as AnyStatus};
-ghost use Rattle.sel_cli.specs.Words.{Task as AnyTask, PrintGrammar, OverForest, command};
+ghost use Rattle.sel_cli.specs.Words.{Task as AnyTask, PrintGrammar, Make, OverForest, command};
 ghost use Rattle.sel_cli.specs.Settings.{AreWithinBounds};
 ghost use Rattle.sel_cli.specs.Names.{task_for, source_for, IsShort};
 ghost use Rattle.sel_cli.specs.Texts.{IsTold, MayBe, AcceptsGrammar, Accepts};
@@ -16,7 +16,7 @@ ghost use Rattle.sel_cli.specs.Parts.{PutsFor};
 ghost use Rattle.sel_cli.specs.Lines.{status_line};
 
 use crate::lines::tell;
-use crate::output::{Output, forest_output, grammar_output};
+use crate::output::{Output, forest_output, grammar_output, made_output};
 use crate::report::Report;
 use crate::settings::Settings;
 use crate::status::Status;
@@ -66,6 +66,28 @@ fn print<K: Sink>(alloc: Global, grammar: &Grammar, out: &mut K) -> Status
     ensures quiet { (result ≢ Status.WriteFault) → K.faults out.new ≡ K.faults out.old }
 {
     match grammar_output(alloc, grammar) {
+        Ok(output) => write_output(out, &output),
+        Err(NoMemory) => Status::NoMemory,
+    }
+}
+
+// Makes a forest, and writes its summary.
+fn make<K: Sink, G: Gate>(
+    alloc: Global,
+    accepted: &Accepted,
+    settings: Settings,
+    out: &mut K,
+    gate: &G,
+) -> Status
+    requires form { IsAcceptedForm accepted.now.grammar accepted.now.normal }
+    requires settings { AreWithinBounds settings }
+    ensures ends { (bytes : List ℕ)
+        × WritesJobFor (Make settings.seed settings.trees settings.size) accepted.now.grammar None (K.faults out.old) (K.faults out.new) bytes result
+        × (K.taken out.new ≡ append_known (K.taken out.old) bytes) }
+    ensures later { K.faults out.old ≤ K.faults out.new }
+    ensures quiet { (result ≢ Status.WriteFault) → K.faults out.new ≡ K.faults out.old }
+{
+    match made_output(alloc, accepted, settings, gate) {
         Ok(output) => write_output(out, &output),
         Err(NoMemory) => Status::NoMemory,
     }
@@ -169,6 +191,10 @@ fn serve<'a, S: Shelf, K: Sink, G: Gate>(
             status: print(alloc, &accepted.grammar, out),
             name: command.grammar,
         },
+        Job::Make => Ended {
+            status: make(alloc, &accepted, command.settings, out, gate),
+            name: command.grammar,
+        },
         Job::OverForest(mode, name) => {
             serve_forest(alloc, command, mode, name, &accepted, shelf, out, gate)
         }
@@ -203,10 +229,11 @@ fn obey<'a, S: Shelf, K: Sink, G: Gate>(
     Ended { status, name: "" }
 }
 
-/// Does what the words ask for (`cover GRAMMAR FOREST`, `select GRAMMAR FOREST`, `print GRAMMAR` or
-/// `print GRAMMAR FOREST`, and options in any place, without the program's name): reads the texts from
-/// the shelf, but for a shipped grammar's, writes the cheapest cover of each tree, the text that it expands
-/// to, or the grammar or the forest in print, to `out`, and says how it ended. The status's line goes to `err`.
+/// Does what the words ask for (`cover`, `select`, `print` or `summary` with GRAMMAR and FOREST, `print GRAMMAR`
+/// or `make GRAMMAR`, and options in any place, without the program's name): reads the texts from the shelf, but
+/// for a shipped grammar's, or makes the forest, writes the cheapest cover of each tree, the text that it expands
+/// to, a summary of the covers, or the grammar or the forest in print, to `out`, and says how it ended. The
+/// status's line goes to `err`.
 pub fn run<S: Shelf, K: Sink, E: Sink, G: Gate, Rt: Threads + Sync>(
     _rt: &Rt,
     alloc: Global,
@@ -234,7 +261,7 @@ pub fn run<S: Shelf, K: Sink, E: Sink, G: Gate, Rt: Threads + Sync>(
     ensures quiet { (result.0 ≢ Status.ReadFault) → S.faults shelf.new ≡ S.faults shelf.old }
     ensures out_quiet { (result.0 ≢ Status.WriteFault) → K.faults out.new ≡ K.faults out.old }
     ensures read { ReadsFor (command (map string_bytes words.now)) (record { before = S.faults shelf.old; after = S.faults shelf.new; last = S.last shelf.new }) result.0 }
-    // Nothing is read where the words are no command, or a shipped grammar is printed.
+    // Nothing is read where the words are no command, or a shipped grammar is printed or a forest made of it.
     ensures untouched { NeedsNoText (command (map string_bytes words.now)) → shelf.new ≡ shelf.old }
     ensures later { (S.faults shelf.old ≤ S.faults shelf.new) × (K.faults out.old ≤ K.faults out.new) × (E.faults err.old ≤ E.faults err.new) }
 {

@@ -263,7 +263,7 @@ fn forests_with_attributes_and_their_faults(rt: HostRuntime) -> Result<(), Fail>
 const ROW_GRAMMAR: &str = "%term X=1 U=2\n%%\na: U(a) \"\" 1\na: X \"\"\n";
 
 // `U(U(..X..))` with that many `U`.
-fn row_of(alloc: Global, count: usize) -> Result<String, Fail> {
+pub fn row_of(alloc: Global, count: usize) -> Result<String, Fail> {
     let mut text = String::new(alloc);
     for _ in 0..count {
         text.push_str("U(")?;

@@ -9,7 +9,7 @@ use std::test::Fail;
 const MACHINE: &str =
     "%start stmt\n%term ASGN=1 ADD=2 CNST=3 ADDR=4 INDIR=5\n%%\nstmt: reg \"\"\nstmt: ASGN(addr,reg) \"sd %1, %0\\n\" 1\nreg: ADD(reg,con12) \"addi %c, %0, %1\\n\" 1\nreg: ADD(reg,reg) \"add %c, %0, %1\\n\" 1\nreg: con \"li %c, %0\\n\" 1\ncon12: CNST \"%a\" range(a,-2048,2047)\ncon: CNST \"%a\"\naddr: ADDR \"%a\"\nreg: INDIR(addr) \"ld %c, %0\\n\" 1\n";
 
-const SELECT: Case<'static> = Case {
+pub const SELECT: Case<'static> = Case {
     words: &["select", "g", "f"],
     grammar: MACHINE,
     forest: "ASGN(ADDR:x,ADD(INDIR(ADDR:y),CNST:4))",

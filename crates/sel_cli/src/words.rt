@@ -1,6 +1,6 @@
 // What the words ask for.
 ghost use Rattle.std.specs.Prelude.{◌≡◌, map, option_map, option_and_then, string_bytes, IfOk, IfSome};
-ghost use Rattle.sel_cli.specs.Words.{command, source_of, mode_of, job_of, task_of, asked_by};
+ghost use Rattle.sel_cli.specs.Words.{command, source_of, mode_of, making, grammar_job, job_of, task_of, asked_by};
 ghost use Rattle.sel_cli.specs.Names.{job_for, source_for, task_for, IsShort};
 ghost use Rattle.sel_cli.specs.Found.{IsFound};
 ghost use Rattle.sel_cli.specs.Split.{Parts};
@@ -19,6 +19,8 @@ pub enum Mode {
     Cover,
     /// The text that the cheapest cover of each tree expands to.
     Select,
+    /// How many trees there are, how many have no cover, and what the cheapest covers cost together.
+    Summary,
     /// The forest itself.
     Print,
 }
@@ -27,8 +29,13 @@ pub enum Mode {
 #[derive(Clone, Copy)]
 pub enum Job<'a> {
     PrintGrammar,
+    /// A forest is made, as the settings say, and a summary of it is written.
+    Make,
     OverForest(Mode, &'a str),
 }
+
+/// The greatest count of trees times their size in a made forest.
+const MOST_MADE: u64 = 16_000_000;
 
 /// Where a grammar's text is from.
 #[derive(Clone, Copy)]
@@ -56,19 +63,36 @@ fn mode_of(word: &str) -> Option<Mode>
         "cover" => Some(Mode::Cover),
         "select" => Some(Mode::Select),
         "print" => Some(Mode::Print),
+        "summary" => Some(Mode::Summary),
         _ => None,
     }
 }
 
-fn job_of<'a>(mode: Mode, words: &[&'a str]) -> Option<Job<'a>>
-    ensures { option_map job_for result ≡ job_of mode (map (λ word. word.now) words.now) }
+fn making<'a>(settings: Settings) -> Option<Job<'a>>
+    ensures { option_map (job_for settings) result ≡ making settings }
+{
+    match settings.trees.checked_mul(settings.size) {
+        Some(product) if product <= MOST_MADE => Some(Job::Make),
+        _ => None,
+    }
+}
+
+fn grammar_job<'a>(settings: Settings, word: &str) -> Option<Job<'a>>
+    ensures { option_map (job_for settings) result ≡ grammar_job settings word.now }
+{
+    match word {
+        "print" => Some(Job::PrintGrammar),
+        "make" => making(settings),
+        _ => None,
+    }
+}
+
+fn job_of<'a>(settings: Settings, word: &str, words: &[&'a str]) -> Option<Job<'a>>
+    ensures { option_map (job_for settings) result ≡ job_of settings word.now (map (λ word. word.now) words.now) }
 {
     match words {
-        [] => match mode {
-            Mode::Cover | Mode::Select => None,
-            Mode::Print => Some(Job::PrintGrammar),
-        },
-        [forest] => Some(Job::OverForest(mode, forest)),
+        [] => grammar_job(settings, word),
+        [forest] => Some(Job::OverForest(mode_of(word)?, forest)),
         _ => None,
     }
 }
@@ -89,7 +113,7 @@ fn command_of<'a>(settings: Settings, plain: &[&'a str]) -> Option<Command<'a>>
 {
     match plain {
         [mode, grammar, words @ ..] => {
-            let job = job_of(mode_of(mode)?, words)?;
+            let job = job_of(settings, mode, words)?;
             let source = source_of(grammar)?;
             Some(Command {
                 job,
@@ -110,9 +134,10 @@ fn asked_by<'a>(found: &ArgMatches<'a>) -> Option<Command<'a>>
     command_of(settings, found.get_raw("plain")?)
 }
 
-/// What the words ask for, or None where they are no command: `cover GRAMMAR FOREST`, `select GRAMMAR FOREST`,
-/// `print GRAMMAR` or `print GRAMMAR FOREST`, and among them `--NAME VALUE` or `--NAME=VALUE`. Behind a word `--`
-/// no word is an option. A GRAMMAR that begins with `@` is `@rv64i`, `@aarch64` or `@x86-64`, behind `--` too.
+/// What the words ask for, or None where they are no command: `cover`, `select`, `print` or `summary` with GRAMMAR
+/// and FOREST, `print GRAMMAR` or `make GRAMMAR`, and among them `--NAME VALUE` or `--NAME=VALUE`. Behind a word
+/// `--` no word is an option. A GRAMMAR that begins with `@` is `@rv64i`, `@aarch64` or `@x86-64`, behind `--` too.
+/// With `make`, trees times size are at most 16,000,000.
 pub fn read_words<'a>(alloc: Global, words: &'a [String]) -> Result<Option<Command<'a>>, NoMemory>
     ensures exact { IfOk result (λ answer. option_map task_for answer ≡ command (map string_bytes words.now)) }
     ensures short { IfOk result (λ answer. IfSome answer (λ command. IsShort (source_for command.source))) }

@@ -1,0 +1,145 @@
+// The answers of a forest.
+ghost use Rattle.std.specs.Prelude.{◌≡◌, ◌<◌, ◌++◌, ◌∷◌, [], List, OnOk, IfOk};
+ghost use Rattle.sel_forest.specs.declared.forest.Tree.{Tree as AnyTree};
+ghost use Rattle.sel_forest.specs.Limits.{most_trees};
+ghost use Rattle.sel_forest.specs.Valid.{IsValidForest, IsValidTree};
+ghost use Rattle.sel_items.specs.Laws.{IsAcceptedForm};
+ghost use Rattle.sel_cli.specs.Settings.{AreWithinBounds};
+ghost use Rattle.sel_cli.specs.Output.{AreAnswered};
+ghost use Rattle.sel_cli.specs.Telling.{AreTold};
+
+use crate::answers::has_second_costs;
+use crate::output::Output;
+use crate::settings::Settings;
+use crate::texts::Accepted;
+use crate::told::{Telling, Told};
+use sel_auto::PrivateAutomaton;
+use sel_base::{Gate, NoMemory, Steps};
+use sel_expand::Expander;
+use sel_forest::{Forest, Tree};
+use sel_items::Automaton;
+use sel_work::answer_tree;
+use std::alloc::Global;
+use std::marker::Brand;
+use std::sync::ledger::{Blank, Ledger};
+
+// Answers the next tree by the automaton, and tells the answer.
+fn answer_next<A: Automaton, L: Ledger, G: Gate>(
+    automaton: &mut A,
+    expander: &mut Expander,
+    alloc: Global,
+    accepted: &Accepted,
+    tree: &Tree,
+    telling: &mut Telling,
+    steps: &mut Steps<L>,
+    gate: &G,
+) -> Result<(), NoMemory>
+    requires normal { A.normal automaton.old ≡ accepted.now.normal }
+    requires form { IsAcceptedForm accepted.now.grammar accepted.now.normal }
+    requires valid { IsValidTree accepted.now.grammar tree.now }
+    requires so_far { (trees : List AnyTree) × AreTold accepted.now.grammar trees telling.old }
+    requires few { telling.old.count < most_trees }
+    ensures told { (trees : List AnyTree) → AreTold accepted.now.grammar trees telling.old → OnOk result (AreTold accepted.now.grammar (trees ++ tree.now ∷ []) telling.new) }
+    ensures same { telling.new.told ≡ telling.old.told }
+    ensures normal { A.normal automaton.new ≡ A.normal automaton.old }
+{
+    let number = telling.count;
+    gate.enter(0, number);
+    let answer = answer_tree(
+        automaton,
+        expander,
+        alloc,
+        &accepted.grammar,
+        &accepted.normal,
+        tree,
+        telling.told.goal(),
+        steps,
+    )?;
+    telling.tell(&answer)?;
+    gate.leave(0, number);
+    Ok(())
+}
+
+// Answers each tree of the forest by the automaton, in order.
+fn answer_by<A: Automaton, L: Ledger, G: Gate>(
+    automaton: &mut A,
+    alloc: Global,
+    accepted: &Accepted,
+    forest: &Forest,
+    told: Told,
+    steps: &mut Steps<L>,
+    gate: &G,
+) -> Result<Output, NoMemory>
+    requires normal { A.normal automaton.old ≡ accepted.now.normal }
+    requires form { IsAcceptedForm accepted.now.grammar accepted.now.normal }
+    requires valid { IsValidForest accepted.now.grammar forest.now }
+    ensures { IfOk result (λ output. AreAnswered accepted.now.grammar told forest.now.trees output.covered output.text.items) }
+{
+    let second = has_second_costs(&accepted.grammar);
+    let mut expander = Expander::new(alloc);
+    let mut telling = Telling::new(alloc, told, second);
+    'trees: for tree in forest.trees.as_slice() {
+        answer_next(
+            automaton,
+            &mut expander,
+            alloc,
+            accepted,
+            tree,
+            &mut telling,
+            steps,
+            gate,
+        )?;
+    }
+    telling.into_output(alloc)
+}
+
+// Makes the automaton, and counts its steps over the blank.
+fn answer_counted<L: Ledger, G: Gate>(
+    alloc: Global,
+    accepted: &Accepted,
+    settings: Settings,
+    forest: &Forest,
+    told: Told,
+    gate: &G,
+    blank: Blank,
+) -> Result<Output, NoMemory>
+    requires form { IsAcceptedForm accepted.now.grammar accepted.now.normal }
+    requires settings { AreWithinBounds settings }
+    requires valid { IsValidForest accepted.now.grammar forest.now }
+    requires name { blank.name ≡ L.name }
+    requires parts { blank.parts ≡ L.parts }
+    requires one { 0 < blank.parts }
+    ensures { IfOk result (λ output. AreAnswered accepted.now.grammar told forest.now.trees output.covered output.text.items) }
+{
+    let states = settings.states as u32;
+    let rows = settings.rows as u32;
+    let mut automaton = PrivateAutomaton::new(alloc, &accepted.normal, states, rows)?;
+    let mut steps = Steps::<L>::new(blank);
+    answer_by(
+        &mut automaton,
+        alloc,
+        accepted,
+        forest,
+        told,
+        &mut steps,
+        gate,
+    )
+}
+
+/// Answers each tree of the forest, in order, by one automaton for them all, with as many states and
+/// transitions as the settings say, and tells the answers so. The one worker passes the gate round each tree.
+pub fn answer_forest<G: Gate>(
+    alloc: Global,
+    accepted: &Accepted,
+    settings: Settings,
+    forest: &Forest,
+    told: Told,
+    gate: &G,
+) -> Result<Output, NoMemory>
+    requires form { IsAcceptedForm accepted.now.grammar accepted.now.normal }
+    requires settings { AreWithinBounds settings }
+    requires valid { IsValidForest accepted.now.grammar forest.now }
+    ensures { IfOk result (λ output. AreAnswered accepted.now.grammar told forest.now.trees output.covered output.text.items) }
+{
+    answer_counted::<Brand, G>(alloc, accepted, settings, forest, told, gate, Blank::new(1))
+}
