@@ -1,5 +1,5 @@
 -- Trees made one after the other.
-use Rattle.std.proofs.Common.{◌≡◌, ℕ, suc, ◌+◌, ◌<◌, ◌≤◌, ◌⊎◌, inl, inr, true, ◌&&◌, if◌then◌else◌, Option, Some, None, List, [], ◌∷◌, ◌++◌, length, refl, ap, sym, ◌∙◌, subst, arith, append_assoc, append-nil, slice_get, length-append}
+use Rattle.std.proofs.Common.{◌≡◌, ℕ, suc, ◌+◌, ◌<◌, ◌≤◌, ◌⊎◌, inl, inr, true, ◌&&◌, if◌then◌else◌, Some, List, [], ◌∷◌, ◌++◌, length, ap, sym, ◌∙◌, subst, arith, append_assoc, slice_get, length-append}
 use Rattle.rand_pcg.specs.Lcg.{Lcg}
 use Rattle.sel_grammar.specs.declared.grammar.Grammar.{Grammar}
 use Rattle.sel_grammar.specs.PlainTrees.{PlainTree, Node0, Node1, Node2, size}
@@ -10,10 +10,10 @@ use Rattle.sel_forest.specs.Valid.{depth, IsValidTree}
 use Rattle.sel_forest.proofs.Roots.{length-postorder, slice_get-left, slice_get-right}
 use Rattle.sel_forest.proofs.Matching.{some_same}
 use Rattle.std.proofs.lemmas.Option.{slice_get_within}
-use Rattle.sel_gen.specs.Sizes.{Sizes, size_at, AreLeastSizes}
-use Rattle.sel_gen.specs.Made.{most_size, is_kept, AreMade, AreMadeFor, IsMadeForest, first_words}
+use Rattle.sel_gen.specs.Sizes.{Sizes}
+use Rattle.sel_gen.specs.Made.{most_size, is_kept, AreMade, IsMadeForest}
 use Rattle.sel_gen.specs.Growing.{HasGrown}
-use Rattle.sel_gen.specs.Maker.{Maker, AreToCome, count_for}
+use Rattle.sel_gen.specs.Maker.{Maker, AreToCome}
 use Rattle.sel_gen.proofs.Sums.{nat_le_true}
 
 depth_small : (t : PlainTree) → depth t ≤ size t

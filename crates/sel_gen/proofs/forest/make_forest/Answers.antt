@@ -1,7 +1,6 @@
 -- Each turn takes one tree more.
 use Rattle.std.proofs.Common.{◌≡◌, ◌+◌, ◌++◌, ◌∷◌, [], List, length, arith, ap, ◌∙◌, subst}
 use Rattle.std.proofs.lemmas.List.{length_push}
-use Rattle.std.specs.Option.{IfSome}
 use Rattle.sel_grammar.specs.declared.grammar.Grammar.{Grammar}
 use Rattle.sel_forest.specs.declared.forest.Tree.{Tree}
 use Rattle.sel_forest.specs.Valid.{IsValidTree}
