@@ -1,5 +1,5 @@
 -- Trees made one after the other.
-use Rattle.std.proofs.Common.{◌≡◌, ℕ, suc, ◌+◌, ◌-◌, ◌<◌, ◌≤◌, ◌⊎◌, inl, inr, true, ◌&&◌, if◌then◌else◌, List, [], ◌∷◌, ◌++◌, length, refl, ap, sym, ◌∙◌, subst, arith, append_assoc, append-nil, Some, slice_get, length-append}
+use Rattle.std.proofs.Common.{◌≡◌, ℕ, suc, ◌+◌, ◌<◌, ◌≤◌, ◌⊎◌, inl, inr, true, ◌&&◌, if◌then◌else◌, Some, List, [], ◌∷◌, ◌++◌, length, ap, sym, ◌∙◌, subst, arith, append_assoc, slice_get, length-append}
 use Rattle.rand_pcg.specs.Lcg.{Lcg}
 use Rattle.sel_grammar.specs.declared.grammar.Grammar.{Grammar}
 use Rattle.sel_grammar.specs.PlainTrees.{PlainTree, Node0, Node1, Node2, size}
@@ -11,8 +11,9 @@ use Rattle.sel_forest.proofs.Roots.{length-postorder, slice_get-left, slice_get-
 use Rattle.sel_forest.proofs.Matching.{some_same}
 use Rattle.std.proofs.lemmas.Option.{slice_get_within}
 use Rattle.sel_gen.specs.Sizes.{Sizes}
-use Rattle.sel_gen.specs.Made.{most_size, is_kept, AreMade}
+use Rattle.sel_gen.specs.Made.{most_size, is_kept, AreMade, IsMadeForest}
 use Rattle.sel_gen.specs.Growing.{HasGrown}
+use Rattle.sel_gen.specs.Maker.{Maker, AreToCome}
 use Rattle.sel_gen.proofs.Sums.{nat_le_true}
 
 depth_small : (t : PlainTree) → depth t ≤ size t
@@ -25,28 +26,44 @@ kept_is t h =
     let d = depth_small t in
     (λ i. nat_le_true (size t) most_nodes h i && nat_le_true (depth t) greatest_depth (omega arith) i)
 
--- each of the trees is valid
-abbrev pub AreValid : Grammar → List Tree → Type 0
-AreValid g trees = (k : ℕ) (tree : Tree) → slice_get trees k ≡ Some tree → IsValidTree g tree
-
-module _ (g : Grammar) (sizes : Sizes) (budget count k : ℕ) (first words after : Lcg) (trees pushed : List Tree) (tree : Tree) (small : budget ≤ most_size) (lt : k < count) (grown : HasGrown g sizes budget words after tree.nodes) (push : pushed ≡ trees ++ tree ∷ []) where
+-- a tree that has grown is the next one
+module _ (g : Grammar) (sizes : Sizes) (budget : ℕ) (words after : Lcg) (tree : Tree) (small : budget ≤ most_size) (grown : HasGrown g sizes budget words after tree.nodes) where
   few : size grown.tree ≤ most_nodes
   few = let e = ap length grown.postorder_is ∙ length-postorder grown.tree 0 in let s = grown.small in omega arith
 
   tree_is : tree ≡ tree_of grown.tree
   tree_is = (λ i. record { nodes = grown.postorder_is i })
 
-  pub made_more : ((rest : List Tree) → AreMade g sizes budget (count - k) words rest → AreMade g sizes budget count first (trees ++ rest))
-      → (rest : List Tree) → AreMade g sizes budget (count - (k + 1)) after rest → AreMade g sizes budget count first (pushed ++ rest)
-  made_more whole rest h =
-      let next : suc (count - (k + 1)) ≡ count - k = omega arith in
+  pub made_next : (left more : ℕ) → left + 1 ≡ more → (rest : List Tree) → AreMade g sizes budget left after rest → AreMade g sizes budget more words (tree ∷ rest)
+  made_next left more one rest h =
+      let next : suc left ≡ more = omega arith in
       let kept : tree ∷ rest ≡ (if is_kept grown.tree then tree_of grown.tree ∷ rest else rest) =
       ap (λ t. t ∷ rest) tree_is ∙ ap (λ b. if b then tree_of grown.tree ∷ rest else rest) (sym (kept_is grown.tree few)) in
-      subst (AreMade g sizes budget count first) (sym (append_assoc trees (tree ∷ []) rest) ∙ ap (λ x. x ++ rest) (sym push))
-      (whole (tree ∷ rest) (subst (λ m. AreMade g sizes budget m words (tree ∷ rest)) next (grown.tree, after, grown.made, (rest, h, kept))))
+      subst (λ m. AreMade g sizes budget m words (tree ∷ rest)) next (grown.tree, after, grown.made, (rest, h, kept))
 
-  pub valid_more : AreValid g trees → AreValid g pushed
-  valid_more valid j t at = go (split j (length trees) (slice_get_within (trees ++ tree ∷ []) j t (ap (λ x. slice_get x j) (sym push) ∙ at)))
+  pub valid_next : IsValidTree g tree
+  valid_next = record {
+    plain = grown.tree;
+    postorder = grown.postorder_is;
+    over = grown.over;
+    small = few;
+    shallow = let d = depth_small grown.tree in let f = few in omega arith;
+  }
+
+-- each of the trees is valid
+abbrev pub AreValid : Grammar → List Tree → Type 0
+AreValid g trees = (k : ℕ) (tree : Tree) → slice_get trees k ≡ Some tree → IsValidTree g tree
+
+module _ (trees pushed : List Tree) (tree : Tree) (push : pushed ≡ trees ++ tree ∷ []) where
+  pub made_more : (g : Grammar) (seed count budget : ℕ) (old new : Maker) → ((rest : List Tree) → AreToCome new rest → AreToCome old (tree ∷ rest))
+      → ((rest : List Tree) → AreToCome old rest → IsMadeForest g seed count budget (record { trees = trees ++ rest }))
+      → (rest : List Tree) → AreToCome new rest → IsMadeForest g seed count budget (record { trees = pushed ++ rest })
+  made_more g seed count budget old new next whole rest h =
+      subst (λ (all : List Tree). IsMadeForest g seed count budget (record { trees = all })) (sym (append_assoc trees (tree ∷ []) rest) ∙ ap (λ x. x ++ rest) (sym push))
+      (whole (tree ∷ rest) (next rest h))
+
+  pub valid_more : (g : Grammar) → IsValidTree g tree → AreValid g trees → AreValid g pushed
+  valid_more g own valid j t at = go (split j (length trees) (slice_get_within (trees ++ tree ∷ []) j t here))
     where
       here : slice_get (trees ++ tree ∷ []) j ≡ Some t
       here = ap (λ x. slice_get x j) (sym push) ∙ at
@@ -59,14 +76,4 @@ module _ (g : Grammar) (sizes : Sizes) (budget count k : ℕ) (first words after
 
       go : (j < length trees) ⊎ (j ≡ length trees + 0) → IsValidTree g t
       go (inl h) = valid j t (sym (slice_get-left trees (tree ∷ []) j h) ∙ here)
-      go (inr e) =
-          let same : tree ≡ t = some_same (sym (slice_get-right trees (tree ∷ []) 0 j e) ∙ here) in
-          subst (IsValidTree g) same (record { plain = grown.tree; postorder = grown.postorder_is; over = grown.over; small = few; shallow = let d = depth_small grown.tree in let f = few in omega arith })
-
-pub made_none : (g : Grammar) (sizes : Sizes) (budget count : ℕ) (first : Lcg) (rest : List Tree) → AreMade g sizes budget (count - 0) first rest → AreMade g sizes budget count first ([] ++ rest)
-made_none g sizes budget count first rest h = let e : count - 0 ≡ count = omega arith in subst (λ m. AreMade g sizes budget m first rest) e h
-
-pub made_all : (g : Grammar) (sizes : Sizes) (budget count k : ℕ) (first words : Lcg) (trees : List Tree) → count ≤ k → ((rest : List Tree) → AreMade g sizes budget (count - k) words rest → AreMade g sizes budget count first (trees ++ rest)) → AreMade g sizes budget count first trees
-made_all g sizes budget count k first words trees le whole =
-    let e : 0 ≡ count - k = omega arith in
-    subst (AreMade g sizes budget count first) (append-nil trees) (whole [] (subst (λ m. AreMade g sizes budget m words []) e refl))
+      go (inr e) = subst (IsValidTree g) (some_same (sym (slice_get-right trees (tree ∷ []) 0 j e) ∙ here)) own

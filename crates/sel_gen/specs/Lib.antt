@@ -3,4 +3,5 @@ pub mod Made
 pub mod Lowering
 pub mod Drawing
 pub mod Growing
+pub mod Maker
 pub mod Laws

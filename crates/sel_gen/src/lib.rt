@@ -6,10 +6,12 @@ mod draw;
 mod forest;
 mod grow;
 pub mod laws;
+mod maker;
 mod sizes;
 mod tasks;
 
 pub use forest::make_forest;
+pub use maker::TreeMaker;
 
 #[cfg(test)]
 mod tests;

@@ -1,9 +1,9 @@
 // Made forests, as an independent reading of the rules and of the generator in another language makes them.
 ghost use Rattle.sel_grammar.specs.Lawful.{IsLawful};
 
-use super::make_forest;
+use super::{TreeMaker, make_forest};
 use sel_base::List;
-use sel_forest::{print_forest, read_forest};
+use sel_forest::{Tree, print_forest, read_forest};
 use sel_grammar::Grammar;
 use sel_grammar_text::read_grammar;
 use std::alloc::Global;
@@ -40,6 +40,38 @@ fn check(rt: &impl Abort, alloc: Global, case: Case<'_>) -> Result<(), Fail> {
         print_forest(alloc, &grammar, &again)?.as_slice(),
         want.as_bytes()
     );
+    Ok(())
+}
+
+// How a tree prints for debugging, or the absence of one.
+fn shown(alloc: Global, tree: Option<&Tree>) -> Result<String, Fail> {
+    Ok(format!(in alloc; "{tree:?}")?)
+}
+
+// The trees of a maker are those of the forest, as many as are wanted, and no other comes behind them.
+fn check_maker(
+    rt: &impl Abort,
+    alloc: Global,
+    text: &str,
+    numbers: (u64, u8, u8),
+    want: usize,
+) -> Result<(), Fail> {
+    let (seed, trees, size) = numbers;
+    assert!(rt; text.len() < 65_536);
+    assert!(rt; size > 0);
+    let grammar = read_grammar(alloc, text.as_bytes())?;
+    let forest = make_forest(alloc, &grammar, seed, trees as u32, size as u32)?;
+    assert_eq!(rt; forest.trees.len(), want);
+    let mut maker = TreeMaker::new(alloc, &grammar, seed, trees as u32, size as u32)?;
+    for tree in forest.trees.as_slice() {
+        let next = maker.next(alloc)?;
+        assert!(rt; next.is_some());
+        let next = shown(alloc, next.as_ref())?;
+        let tree = shown(alloc, Some(tree))?;
+        assert_eq!(rt; next.as_str(), tree.as_str());
+    }
+    assert!(rt; maker.next(alloc)?.is_none());
+    assert!(rt; maker.next(alloc)?.is_none());
     Ok(())
 }
 
@@ -106,4 +138,12 @@ fn ranges_symbols_chain_rules_and_deep_patterns_are_made_and_read_back(
         "%start s\n%term P=1 U=2 V=3 X=4 Y=5\n%%\ns: P(s,c) \"\" 1\ns: U(V(s)) \"\" 1\ns: c \"\" 1\nc: X \"%a\" range(a,-2048,2047)\nc: Y \"\" 1\n";
     let want = "U(V(Y:s67))\nU(V(U(V(U(V(P(U(V(X:-109)),X:-362)))))))\nX:1845\nY:s13\n";
     check(&rt, rt.alloc(), Case(rules, 42, 4, 20, want))
+}
+
+#[test]
+fn a_maker_gives_the_trees_of_the_forest_and_then_none(rt: HostRuntime) -> Result<(), Fail> {
+    let two = "%start s\n%term X=1 U=2 P=3\n%%\ns: P(s,s) \"\" 1\ns: U(s) \"\" 1\ns: X \"\" 1\n";
+    check_maker(&rt, rt.alloc(), two, (1, 3, 9), 3)?;
+    let none = "%start s\n%term U=1\n%%\ns: U(s) \"\" 1\n";
+    check_maker(&rt, rt.alloc(), none, (1, 100, 64), 0)
 }
