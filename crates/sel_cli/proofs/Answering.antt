@@ -1,5 +1,5 @@
 -- The answers of trees, one by one.
-use Rattle.std.proofs.Common.{◌≡◌, ℕ, ◌+◌, ◌<◌, Bool, true, false, ◌&&◌, List, [], ◌∷◌, ◌++◌, length, take, slice_get, slice_index_or, Some, refl, sym, ap, ◌∙◌, subst, append_assoc, arith, add-one}
+use Rattle.std.proofs.Common.{◌≡◌, ℕ, ◌+◌, ◌<◌, ◌≤◌, Bool, true, false, ◌&&◌, List, [], ◌∷◌, ◌++◌, length, take, slice_get, slice_index_or, Some, None, refl, sym, ap, ◌∙◌, subst, append_assoc, arith, add-one, Vec, Global, Result, Ok, Err, IfOk, OnOk}
 use Rattle.std.proofs.Math.Seq.{take-suc}
 use Rattle.std.specs.List.{list_all}
 use Rattle.std.proofs.lemmas.List.{length-take-le, append-nil}
@@ -13,9 +13,15 @@ use Rattle.sel_forest.specs.Valid.{IsValidTree}
 use Rattle.sel_work.specs.declared.answer.Answer.{Answer}
 use Rattle.sel_work.specs.declared.answer.Goal.{Goal}
 use Rattle.sel_work.specs.Answers.{IsTreeAnswer}
-use Rattle.sel_cli.specs.Output.{AreAnswers, AreAnswered, IsTreesAnswer, answer_text, answers_text, goal_of, told_of, is_covered, has_second_costs}
-use Rattle.sel_cli.specs.Telling.{Tells, AreTold}
+use Rattle.sel_gen.specs.Made.{IsMadeForest}
+use Rattle.sel_gen.specs.Maker.{Maker, AreToCome}
+use Rattle.sel_cli.specs.Output.{IsOutput, AreAnswers, AreAnswered, IsTreesAnswer, answer_text, answers_text, goal_of, told_of, is_covered, has_second_costs}
+use Rattle.sel_cli.specs.Telling.{Gathers, Tells, AreTold}
+use Rattle.sel_cli.specs.Words.{Make}
+use Rattle.sel_cli.specs.declared.output.Output.{Output}
 use Rattle.sel_cli.specs.declared.told.Told.{Told}
+use Rattle.sel_cli.specs.declared.told.Told.TheVariants as told
+use Rattle.sel_cli.specs.declared.told.Gathered.TheVariants as gathered
 use Rattle.sel_cli.specs.declared.told.Telling.{Telling}
 
 AreAnswers-append : (g : Grammar) (goal : Goal) (trees : List Tree) (answers : List Answer) (tree : Tree) (answer : Answer)
@@ -101,3 +107,44 @@ covered_more answers answer before one so_far same =
     all_one : (b : Bool) → (b && true) ≡ b
     all_one true = refl
     all_one false = refl
+
+-- a tree more of those that were to come, and fewer are left
+pub made_next : (g : Grammar) (seed count size : ℕ) (so_far : List Tree) (tree : Tree) (old new : Maker)
+    → ((rest : List Tree) → AreToCome old rest → IsMadeForest g seed count size (record { trees = so_far ++ rest }))
+    → ((rest : List Tree) → AreToCome new rest → AreToCome old (tree ∷ rest))
+    → (rest : List Tree) → AreToCome new rest → IsMadeForest g seed count size (record { trees = (so_far ++ tree ∷ []) ++ rest })
+made_next g seed count size so_far tree old new whole next rest h =
+    subst (λ l. IsMadeForest g seed count size (record { trees = l })) (sym (append_assoc so_far (tree ∷ []) rest)) (whole (tree ∷ rest) (next rest h))
+
+-- fewer answers than trees are told
+pub told_few : (g : Grammar) (trees : List Tree) (index most : ℕ) (telling : Telling) → index < length trees → length trees ≤ most → AreTold g (take index trees) telling → telling.count < most
+told_few g trees index most telling h few told = let e = told_count g (take index trees) telling told ∙ length-take-le index trees (omega arith) in omega arith
+
+-- what is gathered of one more answer, where each has its own text
+pub text_gathered : (told : Told) (second : Bool) (number : ℕ) (old new : Vec ℕ Global) (answers : List Answer) (answer : Answer) → length answers + 1 ≡ number
+    → Gathers told second (gathered.EachTree old) answers → new.items ≡ old.items ++ answer_text second number answer
+    → Gathers told second (gathered.EachTree new) (answers ++ answer ∷ [])
+text_gathered told.Covers second number old new answers answer long so_far more = text_more second number old.items new.items answers answer long so_far more
+text_gathered told.Texts second number old new answers answer long so_far more = text_more second number old.items new.items answers answer long so_far more
+text_gathered told.Summary second number old new answers answer long so_far more = absurd so_far
+
+-- the same of what putting its text ends with
+pub text_put : {E : Type 0} (told : Told) (second : Bool) (number : ℕ) (old new : Vec ℕ Global) (answers : List Answer) (answer : Answer) (result : Result (Unit {0}) E) → length answers + 1 ≡ number
+    → Gathers told second (gathered.EachTree old) answers → OnOk result (new.items ≡ old.items ++ answer_text second number answer)
+    → OnOk result (Gathers told second (gathered.EachTree new) (answers ++ answer ∷ []))
+text_put told second number old new answers answer (Ok done) long so_far more = text_gathered told second number old new answers answer long so_far more
+text_put told second number old new answers answer (Err fault) long so_far more = tt
+
+-- what is put out at the end is the answers of all trees
+pub all_put : {E : Type 0} (g : Grammar) (told : Told) (trees : List Tree) (telling : Telling) (result : Result Output E) → AreTold g trees telling → telling.told ≡ told
+    → ((answers : List Answer) → Tells telling answers → IfOk result (λ output. (output.text.items ≡ told_of telling.told telling.second answers) × (list_all is_covered answers ≡ output.covered)))
+    → IfOk result (λ output. AreAnswered g told trees output.covered output.text.items)
+all_put g told trees telling (Ok output) all same put = all_told g told trees telling output.covered output.text.items all same put
+all_put g told trees telling (Err fault) all same put = tt
+
+-- so is the summary of all trees that were made
+pub made_put : {E : Type 0} (g : Grammar) (seed count size : ℕ) (trees : List Tree) (result : Result Output E)
+    → IsMadeForest g seed count size (record { trees = trees ++ [] }) → IfOk result (λ output. AreAnswered g told.Summary trees output.covered output.text.items)
+    → IfOk result (λ output. IsOutput (Make seed count size) g None output.covered output.text.items)
+made_put g seed count size trees (Ok output) made answered = (record { trees = trees }, subst (λ l. IsMadeForest g seed count size (record { trees = l })) (append-nil trees) made, answered)
+made_put g seed count size trees (Err fault) made answered = tt

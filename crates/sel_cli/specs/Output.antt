@@ -87,6 +87,13 @@ abbrev pub answers_text : Bool → ℕ → List Answer → List ℕ
 answers_text second number [] = []
 answers_text second number (answer ∷ answers) = answer_text second number answer ++ answers_text second (number + 1) answers
 
+-- nothing derives the tree
+abbrev pub is_uncovered : Answer → Bool
+is_uncovered NoCover = true
+is_uncovered (answers.Cover cover) = false
+is_uncovered (Text c text) = false
+is_uncovered (TooLong c) = false
+
 -- what the answer adds to the sum of costs
 abbrev pub cost_of : Answer → Cost
 cost_of NoCover = no_cost
@@ -106,7 +113,7 @@ told_line word text = word ++ (text ++ codes "\n")
 abbrev pub summary_text : Bool → List Answer → List ℕ
 summary_text second answers =
     told_line (codes "trees ") (decimal (length answers))
-    ++ (told_line (codes "uncovered ") (decimal (count_by (λ answer. not (is_covered answer)) answers))
+    ++ (told_line (codes "uncovered ") (decimal (count_by is_uncovered answers))
     ++ told_line (codes "cost ") (cost_text second (sum_of_costs answers)))
 
 -- what is asked of each tree

@@ -1,10 +1,10 @@
 -- What is told so far of a forest's answers.
-use Rattle.std.specs.Prelude.{◌≡◌, ℕ, ◌+◌, ◌*◌, ◌<◌, ◌≤◌, Bool, not, List, length, count_by, pos, ◌-ℤ◌, ◌≤ℤ◌}
+use Rattle.std.specs.Prelude.{◌≡◌, ℕ, ◌+◌, ◌*◌, ◌<◌, ◌≤◌, Bool, List, length, count_by, pos, ◌-ℤ◌, ◌≤ℤ◌}
 use Rattle.std.specs.List.{list_all}
 use Rattle.sel_grammar.specs.declared.grammar.Grammar.{Grammar}
 use Rattle.sel_forest.specs.declared.forest.Tree.{Tree}
 use Rattle.sel_work.specs.declared.answer.Answer.{Answer}
-use Rattle.sel_cli.specs.Output.{AreAnswers, answers_text, goal_of, has_second_costs, is_covered, sum_of_costs}
+use Rattle.sel_cli.specs.Output.{AreAnswers, answers_text, goal_of, has_second_costs, is_covered, is_uncovered, sum_of_costs}
 use Rattle.sel_cli.specs.declared.sums.Sums.{Sums}
 use Rattle.sel_cli.specs.declared.told.Told.{Told}
 use Rattle.sel_cli.specs.declared.told.Told.TheVariants as told
@@ -25,7 +25,7 @@ AreSmall most sums = (count : ℕ) × (count < most) × AreWithin count sums
 
 -- the sums of these answers
 pub record AreSums (sums : Sums) (answers : List Answer) : Type 0 where
-  pub uncovered : sums.uncovered ≡ count_by (λ answer. not (is_covered answer)) answers
+  pub uncovered : sums.uncovered ≡ count_by is_uncovered answers
   pub first : sums.first ≡ (sum_of_costs answers).first
   pub second : sums.second ≡ (sum_of_costs answers).second
   pub within : AreWithin (length answers) sums

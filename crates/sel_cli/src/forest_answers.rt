@@ -1,11 +1,12 @@
 // The answers of a forest.
-ghost use Rattle.std.specs.Prelude.{◌≡◌, ◌<◌, ◌++◌, ◌∷◌, [], List, OnOk, IfOk};
+ghost use Rattle.std.specs.Prelude.{◌≡◌, ◌<◌, ◌++◌, ◌∷◌, [], None, List, OnOk, IfOk};
 ghost use Rattle.sel_forest.specs.declared.forest.Tree.{Tree as AnyTree};
 ghost use Rattle.sel_forest.specs.Limits.{most_trees};
 ghost use Rattle.sel_forest.specs.Valid.{IsValidForest, IsValidTree};
 ghost use Rattle.sel_items.specs.Laws.{IsAcceptedForm};
 ghost use Rattle.sel_cli.specs.Settings.{AreWithinBounds};
-ghost use Rattle.sel_cli.specs.Output.{AreAnswered};
+ghost use Rattle.sel_cli.specs.Output.{AreAnswered, IsOutput};
+ghost use Rattle.sel_cli.specs.Words.{Make};
 ghost use Rattle.sel_cli.specs.Telling.{AreTold};
 
 use crate::answers::has_second_costs;
@@ -17,6 +18,7 @@ use sel_auto::PrivateAutomaton;
 use sel_base::{Gate, NoMemory, Steps};
 use sel_expand::Expander;
 use sel_forest::{Forest, Tree};
+use sel_gen::TreeMaker;
 use sel_items::Automaton;
 use sel_work::answer_tree;
 use std::alloc::Global;
@@ -93,6 +95,41 @@ fn answer_by<A: Automaton, L: Ledger, G: Gate>(
     telling.into_output(alloc)
 }
 
+// Makes the trees of a forest, answers each by the automaton, and sums the answers up.
+fn sum_made_by<A: Automaton, L: Ledger, G: Gate>(
+    automaton: &mut A,
+    alloc: Global,
+    accepted: &Accepted,
+    settings: Settings,
+    steps: &mut Steps<L>,
+    gate: &G,
+) -> Result<Output, NoMemory>
+    requires normal { A.normal automaton.old ≡ accepted.now.normal }
+    requires form { IsAcceptedForm accepted.now.grammar accepted.now.normal }
+    requires settings { AreWithinBounds settings }
+    ensures { IfOk result (λ output. IsOutput (Make settings.seed settings.trees settings.size) accepted.now.grammar None output.covered output.text.items) }
+{
+    let trees = settings.trees as u32;
+    let size = settings.size as u32;
+    let mut maker = TreeMaker::new(alloc, &accepted.grammar, settings.seed, trees, size)?;
+    let second = has_second_costs(&accepted.grammar);
+    let mut expander = Expander::new(alloc);
+    let mut telling = Telling::new(alloc, Told::Summary, second);
+    'trees: while let Some(tree) = maker.next(alloc)? {
+        answer_next(
+            automaton,
+            &mut expander,
+            alloc,
+            accepted,
+            &tree,
+            &mut telling,
+            steps,
+            gate,
+        )?;
+    }
+    telling.into_output(alloc)
+}
+
 // Makes the automaton, and counts its steps over the blank.
 fn answer_counted<L: Ledger, G: Gate>(
     alloc: Global,
@@ -142,4 +179,41 @@ pub fn answer_forest<G: Gate>(
     ensures { IfOk result (λ output. AreAnswered accepted.now.grammar told forest.now.trees output.covered output.text.items) }
 {
     answer_counted::<Brand, G>(alloc, accepted, settings, forest, told, gate, Blank::new(1))
+}
+
+// Makes the automaton for a forest that is made, and counts its steps over the blank.
+fn sum_made_counted<L: Ledger, G: Gate>(
+    alloc: Global,
+    accepted: &Accepted,
+    settings: Settings,
+    gate: &G,
+    blank: Blank,
+) -> Result<Output, NoMemory>
+    requires form { IsAcceptedForm accepted.now.grammar accepted.now.normal }
+    requires settings { AreWithinBounds settings }
+    requires name { blank.name ≡ L.name }
+    requires parts { blank.parts ≡ L.parts }
+    requires one { 0 < blank.parts }
+    ensures { IfOk result (λ output. IsOutput (Make settings.seed settings.trees settings.size) accepted.now.grammar None output.covered output.text.items) }
+{
+    let states = settings.states as u32;
+    let rows = settings.rows as u32;
+    let mut automaton = PrivateAutomaton::new(alloc, &accepted.normal, states, rows)?;
+    let mut steps = Steps::<L>::new(blank);
+    sum_made_by(&mut automaton, alloc, accepted, settings, &mut steps, gate)
+}
+
+/// The summary of the forest that the settings make. Each tree is answered when it is made, and only the
+/// sums are kept.
+pub fn sum_made_forest<G: Gate>(
+    alloc: Global,
+    accepted: &Accepted,
+    settings: Settings,
+    gate: &G,
+) -> Result<Output, NoMemory>
+    requires form { IsAcceptedForm accepted.now.grammar accepted.now.normal }
+    requires settings { AreWithinBounds settings }
+    ensures { IfOk result (λ output. IsOutput (Make settings.seed settings.trees settings.size) accepted.now.grammar None output.covered output.text.items) }
+{
+    sum_made_counted::<Brand, G>(alloc, accepted, settings, gate, Blank::new(1))
 }

@@ -3,7 +3,7 @@ ghost use Rattle.std.specs.Prelude.{◌≡◌, ℕ, List, Some, None, IfOk};
 ghost use Rattle.sel_forest.specs.Valid.{IsValidForest};
 ghost use Rattle.sel_items.specs.Laws.{IsAcceptedForm};
 ghost use Rattle.sel_cli.specs.Settings.{AreWithinBounds};
-ghost use Rattle.sel_cli.specs.Words.{PrintGrammar, Make, OverForest};
+ghost use Rattle.sel_cli.specs.Words.{PrintGrammar, OverForest};
 ghost use Rattle.sel_cli.specs.Output.{IsOutput};
 
 use crate::forest_answers::answer_forest;
@@ -13,7 +13,6 @@ use crate::told::Told;
 use crate::words::Mode;
 use sel_base::{Gate, NoMemory};
 use sel_forest::{Forest, print_forest};
-use sel_gen::make_forest;
 use sel_grammar::Grammar;
 use sel_grammar_text::print_grammar;
 use std::alloc::Global;
@@ -67,21 +66,4 @@ pub fn forest_output<G: Gate>(
         Mode::Summary => answer_forest(alloc, accepted, settings, forest, Told::Summary, gate),
         Mode::Print => printed_forest(alloc, &accepted.grammar, forest),
     }
-}
-
-/// The summary of the forest that the settings make.
-pub fn made_output<G: Gate>(
-    alloc: Global,
-    accepted: &Accepted,
-    settings: Settings,
-    gate: &G,
-) -> Result<Output, NoMemory>
-    requires form { IsAcceptedForm accepted.now.grammar accepted.now.normal }
-    requires settings { AreWithinBounds settings }
-    ensures { IfOk result (λ output. IsOutput (Make settings.seed settings.trees settings.size) accepted.now.grammar None output.covered output.text.items) }
-{
-    let trees = settings.trees as u32;
-    let size = settings.size as u32;
-    let forest = make_forest(alloc, &accepted.grammar, settings.seed, trees, size)?;
-    answer_forest(alloc, accepted, settings, &forest, Told::Summary, gate)
 }

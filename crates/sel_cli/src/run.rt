@@ -15,8 +15,9 @@ ghost use Rattle.sel_cli.specs.Ends.{EndsFor, WritesJobFor, Ending, Decides, IsE
 ghost use Rattle.sel_cli.specs.Parts.{PutsFor};
 ghost use Rattle.sel_cli.specs.Lines.{status_line};
 
+use crate::forest_answers::sum_made_forest;
 use crate::lines::tell;
-use crate::output::{Output, forest_output, grammar_output, made_output};
+use crate::output::{Output, forest_output, grammar_output};
 use crate::report::Report;
 use crate::settings::Settings;
 use crate::status::Status;
@@ -87,7 +88,7 @@ fn make<K: Sink, G: Gate>(
     ensures later { K.faults out.old ≤ K.faults out.new }
     ensures quiet { (result ≢ Status.WriteFault) → K.faults out.new ≡ K.faults out.old }
 {
-    match made_output(alloc, accepted, settings, gate) {
+    match sum_made_forest(alloc, accepted, settings, gate) {
         Ok(output) => write_output(out, &output),
         Err(NoMemory) => Status::NoMemory,
     }

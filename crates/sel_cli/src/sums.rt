@@ -27,6 +27,17 @@ impl Sums {
         second: 0,
     };
 
+    fn with_uncovered(self) -> Sums
+        requires small { AreSmall most_trees self }
+        ensures within { (count : ℕ) → AreWithin count self → AreWithin (count + 1) result }
+        ensures exact { result ≡ record { uncovered = self.uncovered + 1; first = self.first; second = self.second } }
+    {
+        Sums {
+            uncovered: self.uncovered + 1,
+            ..self
+        }
+    }
+
     fn with_cost(self, cost: Pair) -> Sums
         requires small { AreSmall most_trees self }
         ensures within { (count : ℕ) → AreWithin count self → AreWithin (count + 1) result }
@@ -45,10 +56,7 @@ impl Sums {
         ensures { (answers : List AnyAnswer) → AreSums self answers → AreSums result (answers ++ answer.now ∷ []) }
     {
         match answer {
-            Answer::NoCover => Sums {
-                uncovered: self.uncovered + 1,
-                ..self
-            },
+            Answer::NoCover => self.with_uncovered(),
             Answer::Cover(cover) => self.with_cost(cover.cost),
             Answer::Text { cost, .. } => self.with_cost(*cost),
             Answer::TooLong { cost } => self.with_cost(*cost),

@@ -246,41 +246,93 @@ fn larger_made_forests_are_no_command(rt: HostRuntime) -> Result<(), Fail> {
     Ok(())
 }
 
-// The bytes of the summary of a forest that is made of the grammar by some workers.
-fn made_by(
+// Ten thousand trees of the grammar that the words name have covers, and their sums are those that other
+// words tell.
+fn are_covered(
     rt: &(impl Abort + Threads + Sync),
     alloc: Global,
-    grammar: &str,
-    workers: &str,
-) -> Result<Vec<u8>, Fail> {
-    let case = Case {
-        words: &[
-            "make",
-            grammar,
-            "--seed",
-            "7",
-            "--trees",
-            "10000",
-            "--workers",
-            workers,
-        ],
-        ..PLAIN
-    };
-    let end = end_of(rt, alloc, &case)?;
+    alone: &Case<'_>,
+    beside: &Case<'_>,
+) -> Result<(), Fail> {
+    let end = end_of(rt, alloc, alone)?;
+    let other = end_of(rt, alloc, beside)?;
     assert_eq!(rt; end.status, Status::Done);
-    let mut bytes = Vec::new(alloc);
-    bytes.extend_from_slice(end.out.bytes())?;
-    Ok(bytes)
+    assert!(rt;
+        end.out
+            .bytes()
+            .starts_with(b"trees 10000\nuncovered 0\ncost ")
+    );
+    assert_eq!(rt; other.status, Status::Done);
+    assert_eq!(rt; end.out.bytes(), other.out.bytes());
+    Ok(())
 }
 
 #[test]
 fn forests_made_of_shipped_grammars_are_covered(rt: HostRuntime) -> Result<(), Fail> {
     let alloc = rt.alloc();
-    for grammar in ["@rv64i", "@aarch64", "@x86-64"] {
-        let alone = made_by(&rt, alloc, grammar, "1")?;
-        assert!(rt; alone.starts_with(b"trees 10000\nuncovered 0\ncost "));
-        let beside = made_by(&rt, alloc, grammar, "8")?;
-        assert_eq!(rt; alone.as_slice(), beside.as_slice());
-    }
+    let alone = Case {
+        words: &["make", "@rv64i", "--trees", "10000", "--workers", "1"],
+        ..PLAIN
+    };
+    let beside = Case {
+        words: &["make", "@rv64i", "--trees", "10000", "--workers", "8"],
+        ..PLAIN
+    };
+    are_covered(&rt, alloc, &alone, &beside)?;
+    let many = Case {
+        words: &["make", "@aarch64", "--trees", "10000"],
+        ..PLAIN
+    };
+    let few = Case {
+        words: &["make", "@aarch64", "--trees", "10000", "--states", "5"],
+        ..PLAIN
+    };
+    are_covered(&rt, alloc, &many, &few)?;
+    let kept = Case {
+        words: &["make", "@x86-64", "--seed", "7", "--trees", "10000"],
+        ..PLAIN
+    };
+    let lost = Case {
+        words: &["make", "--seed=7", "@x86-64", "--trees=10000", "--rows=0"],
+        ..PLAIN
+    };
+    are_covered(&rt, alloc, &kept, &lost)
+}
+
+// A hundred thousand trees, whose sums are the same by one worker and by eight.
+#[test]
+fn a_large_made_forest_is_covered(rt: HostRuntime) -> Result<(), Fail> {
+    let alloc = rt.alloc();
+    let alone = Case {
+        words: &[
+            "make",
+            "@x86-64",
+            "--seed",
+            "7",
+            "--trees",
+            "100000",
+            "--workers",
+            "1",
+        ],
+        ..PLAIN
+    };
+    let beside = Case {
+        words: &[
+            "make",
+            "@x86-64",
+            "--seed",
+            "7",
+            "--trees",
+            "100000",
+            "--workers",
+            "8",
+        ],
+        ..PLAIN
+    };
+    let end = end_of(&rt, alloc, &alone)?;
+    let other = end_of(&rt, alloc, &beside)?;
+    assert_eq!(rt; end.status, Status::Done);
+    assert!(rt; end.out.bytes().starts_with(b"trees 100000\nuncovered 0\n"));
+    assert_eq!(rt; end.out.bytes(), other.out.bytes());
     Ok(())
 }

@@ -3,71 +3,56 @@ use crate::status::Status;
 use crate::tests::{Case, PLAIN, ends};
 use sel_forest::ForestFault;
 use std::alloc::Global;
-use std::marker::Sync;
-use std::process::Abort;
 use std::test::Fail;
-use std::thread::Threads;
 
-// A grammar, a forest, and its texts and its lists of rules.
-#[derive(Clone, Copy)]
-struct Shipped<'a> {
-    grammar: &'a str,
-    forest: &'a str,
-    texts: &'a str,
-    lists: &'a str,
-    status: Status,
-}
+// RV64I has no multiplication.
+const RV64I: Case<'static> = Case {
+    words: &["select", "@rv64i", "f"],
+    forest: "ASGN(REG:a0,ADD(REG:a1,CNST:4))\nASGN(REG:a0,MUL(REG:a1,REG:a2))\nRET(CNST:0)\n",
+    out: "; tree 1 cost 2\naddi t1, a1, 4\nsd t1, 0(a0)\n; tree 2 no cover\n; tree 3 cost 2\nmv a0, zero\nret\n",
+    status: Status::Uncovered,
+    ..PLAIN
+};
 
-fn is_answered(
-    rt: &(impl Abort + Threads + Sync),
-    alloc: Global,
-    shipped: Shipped<'_>,
-) -> Result<(), Fail> {
-    let texts = Case {
-        words: &["select", shipped.grammar, "f"],
-        forest: shipped.forest,
-        out: shipped.texts,
-        status: shipped.status,
-        ..PLAIN
-    };
-    ends(rt, alloc, &texts)?;
-    let lists = Case {
-        words: &["cover", shipped.grammar, "f"],
-        out: shipped.lists,
-        ..texts
-    };
-    ends(rt, alloc, &lists)
-}
+const AARCH64: Case<'static> = Case {
+    words: &["select", "@aarch64", "f"],
+    forest: "RET(ADD(REG:x1,MUL(REG:x2,INDIR(ADD(REG:x3,CNST:8)))))",
+    out: "; tree 1 cost 6\nldur t1, [x3, #8]\nmadd t2, x2, t1, x1\nmov x0, t2\nret\n",
+    ..PLAIN
+};
+
+const X86_64: Case<'static> = Case {
+    words: &["select", "@x86-64", "f"],
+    forest: "ASGN(ADDR:v,INDIR(ADD(ADD(REG:rbx,SHL(REG:rcx,CNST:3)),CNST:-8)))\nRET(ADD(REG:rbx,CNST:5))\nRET(ADD(REG:rbx,CNST:2147483648))\n",
+    out: "; tree 1 cost 2\nmov t1, qword ptr [rbx+rcx*8+-8]\nmov qword ptr [rip+v], t1\n; tree 2 cost 3\nlea t1, [rbx+5]\nmov rax, t1\nret\n; tree 3 cost 6\nmovabs t1, 2147483648\nmov t2, rbx\nadd t2, t1\nmov rax, t2\nret\n",
+    ..PLAIN
+};
 
 #[test]
 fn trees_under_each_shipped_grammar(rt: HostRuntime) -> Result<(), Fail> {
     let alloc = rt.alloc();
     let cases = [
-        // RV64I has no multiplication.
-        Shipped {
-            grammar: "@rv64i",
-            forest: "ASGN(REG:a0,ADD(REG:a1,CNST:4))\nASGN(REG:a0,MUL(REG:a1,REG:a2))\nRET(CNST:0)\n",
-            texts: "; tree 1 cost 2\naddi t1, a1, 4\nsd t1, 0(a0)\n; tree 2 no cover\n; tree 3 cost 2\nmv a0, zero\nret\n",
-            lists: "; tree 1 cost 2\n2 30 9 15 9 34\n; tree 2 no cover\n; tree 3 cost 2\n3 10 32\n",
-            status: Status::Uncovered,
+        RV64I,
+        Case {
+            words: &["cover", "@rv64i", "f"],
+            out: "; tree 1 cost 2\n2 30 9 15 9 34\n; tree 2 no cover\n; tree 3 cost 2\n3 10 32\n",
+            ..RV64I
         },
-        Shipped {
-            grammar: "@aarch64",
-            forest: "RET(ADD(REG:x1,MUL(REG:x2,INDIR(ADD(REG:x3,CNST:8)))))",
-            texts: "; tree 1 cost 6\nldur t1, [x3, #8]\nmadd t2, x2, t1, x1\nmov x0, t2\nret\n",
-            lists: "; tree 1 cost 6\n3 16 9 9 13 30 9 32\n",
-            status: Status::Done,
+        AARCH64,
+        Case {
+            words: &["cover", "@aarch64", "f"],
+            out: "; tree 1 cost 6\n3 16 9 9 13 30 9 32\n",
+            ..AARCH64
         },
-        Shipped {
-            grammar: "@x86-64",
-            forest: "ASGN(ADDR:v,INDIR(ADD(ADD(REG:rbx,SHL(REG:rcx,CNST:3)),CNST:-8)))\nRET(ADD(REG:rbx,CNST:5))\nRET(ADD(REG:rbx,CNST:2147483648))\n",
-            texts: "; tree 1 cost 2\nmov t1, qword ptr [rbx+rcx*8+-8]\nmov qword ptr [rip+v], t1\n; tree 2 cost 3\nlea t1, [rbx+5]\nmov rax, t1\nret\n; tree 3 cost 6\nmovabs t1, 2147483648\nmov t2, rbx\nadd t2, t1\nmov rax, t2\nret\n",
-            lists: "; tree 1 cost 2\n2 33 14 36 10 10 40 42\n; tree 2 cost 3\n4 13 34 10 42\n; tree 3 cost 6\n4 17 10 12 43\n",
-            status: Status::Done,
+        X86_64,
+        Case {
+            words: &["cover", "@x86-64", "f"],
+            out: "; tree 1 cost 2\n2 33 14 36 10 10 40 42\n; tree 2 cost 3\n4 13 34 10 42\n; tree 3 cost 6\n4 17 10 12 43\n",
+            ..X86_64
         },
     ];
     for case in &cases {
-        is_answered(&rt, alloc, *case)?;
+        ends(&rt, alloc, case)?;
     }
     Ok(())
 }

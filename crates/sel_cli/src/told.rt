@@ -1,10 +1,11 @@
 // What is told of a forest's answers, as they come.
-ghost use Rattle.std.specs.Prelude.{◌≡◌, ◌<◌, ◌++◌, ◌∷◌, [], List, OnOk, IfOk};
+ghost use Rattle.std.specs.Prelude.{◌≡◌, ◌<◌, ◌≤◌, ◌+◌, ◌++◌, ◌∷◌, [], List, length, OnOk, IfOk};
 ghost use Rattle.std.specs.List.{list_all};
 ghost use Rattle.sel_forest.specs.Limits.{most_trees};
 ghost use Rattle.sel_work.specs.declared.answer.Answer.{Answer as AnyAnswer};
 ghost use Rattle.sel_cli.specs.Output.{goal_of, told_of, is_covered};
-ghost use Rattle.sel_cli.specs.Telling.{Tells};
+ghost use Rattle.sel_cli.specs.Telling.{Gathers, Tells};
+ghost use Rattle.sel_cli.specs.declared.told.Told.{Told as AnyTold};
 
 use crate::answers::{is_covered, put_answer};
 use crate::output::Output;
@@ -41,6 +42,39 @@ impl Told {
 pub enum Gathered {
     EachTree(Vec<u8>),
     Summary(Sums),
+}
+
+impl Gathered {
+    /// Gathers the answer of the tree of this number.
+    fn add(&mut self, second: bool, number: u32, answer: &Answer) -> Result<(), NoMemory>
+        requires so_far { (told : AnyTold) × (answers : List AnyAnswer) × (length answers + 1 ≡ number) × Gathers told second self.old answers }
+        requires few { number ≤ most_trees }
+        ensures { (told : AnyTold) (answers : List AnyAnswer) → length answers + 1 ≡ number → Gathers told second self.old answers
+            → OnOk result (Gathers told second self.new (answers ++ answer.now ∷ [])) }
+    {
+        match self {
+            Gathered::EachTree(text) => put_answer(text, second, number as u64, answer),
+            Gathered::Summary(sums) => {
+                *sums = sums.with(answer);
+                Ok(())
+            }
+        }
+    }
+
+    /// The whole text of so many answers.
+    fn into_text(self, alloc: Global, second: bool, count: u32) -> Result<Vec<u8>, NoMemory>
+        ensures { (told : AnyTold) (answers : List AnyAnswer) → length answers ≡ count → Gathers told second self answers
+            → IfOk result (λ text. text.items ≡ told_of told second answers) }
+    {
+        match self {
+            Gathered::EachTree(text) => Ok(text),
+            Gathered::Summary(sums) => {
+                let mut text = Vec::new(alloc);
+                put_summary(&mut text, second, count as u64, sums)?;
+                Ok(text)
+            }
+        }
+    }
 }
 
 /// What is told so far: how, whether costs have second numbers, how many answers there were, whether each
@@ -82,10 +116,7 @@ impl Telling {
         ensures second { self.new.second ≡ self.old.second }
     {
         let number = self.count + 1;
-        match &mut self.gathered {
-            Gathered::EachTree(text) => put_answer(text, self.second, number as u64, answer)?,
-            Gathered::Summary(sums) => *sums = sums.with(answer),
-        }
+        self.gathered.add(self.second, number, answer)?;
         self.count = number;
         self.covered &= is_covered(answer);
         Ok(())
@@ -97,14 +128,7 @@ impl Telling {
             → IfOk result (λ output. (output.text.items ≡ told_of self.told self.second answers) × (list_all is_covered answers ≡ output.covered)) }
     {
         let covered = self.covered;
-        let text = match self.gathered {
-            Gathered::EachTree(text) => text,
-            Gathered::Summary(sums) => {
-                let mut text = Vec::new(alloc);
-                put_summary(&mut text, self.second, self.count as u64, sums)?;
-                text
-            }
-        };
+        let text = self.gathered.into_text(alloc, self.second, self.count)?;
         Ok(Output { text, covered })
     }
 }
