@@ -1,11 +1,11 @@
 -- What the words ask for has settings within their bounds.
-use Rattle.std.proofs.Common.{◌≡◌, ℕ, ◌≤◌, Bool, true, false, ◌&&◌, List, [], ◌∷◌, Option, Some, None, refl, sym, ap, subst, ◌∙◌, arith, leb-true, codes}
+use Rattle.std.proofs.Common.{◌≡◌, ℕ, ◌≤◌, Bool, true, false, ◌&&◌, List, [], ◌∷◌, Option, Some, None, refl, ap, subst, arith, leb-true, codes}
 use Rattle.std.specs.Prelude.{nat_le, option_and_then, option_map, if◌then◌else◌}
 use Rattle.std.specs.Str.Parse.{digits_value}
 use Rattle.sel_cli.specs.declared.settings.Bounds.{Bounds}
 use Rattle.sel_cli.specs.declared.settings.Settings.{Settings}
 use Rattle.sel_cli.specs.Settings.{is_number, is_within, number_within, chosen_value, chosen_settings, workers_bounds, states_bounds, rows_bounds, seed_bounds, trees_bounds, size_bounds, AreWithinBounds}
-use Rattle.sel_cli.specs.Split.{Parts, parts_of, values_for}
+use Rattle.sel_cli.specs.Split.{parts_of, values_for}
 use Rattle.sel_cli.specs.Words.{Job, GrammarSource, Task, job_of, source_of, task_of, asked_by, command}
 
 -- what is made of a value is made of some

@@ -5,7 +5,7 @@ use Rattle.std.specs.Io.KnownBytes.{append_known}
 use Rattle.sel_base.specs.Causes.{Rose}
 use Rattle.sel_grammar.specs.declared.grammar.Grammar.{Grammar}
 use Rattle.sel_grammar.specs.declared.refusal.GrammarFault.{GrammarFault}
-use Rattle.sel_grammar_text.specs.GrammarText.{SpellsGrammar, IsGrammarFault}
+use Rattle.sel_grammar_text.specs.GrammarText.{SpellsGrammar}
 use Rattle.sel_grammar_text.proofs.OneAnswer.{one_grammar as grammar_one, one_grammar_fault as grammar_fault_one, not_both}
 use Rattle.sel_normal.specs.NormalFaults.{IsAccepted, IsNormalFault}
 use Rattle.sel_normal.proofs.OneFault.{normal_fault_is_one as normal_fault_one, not_accepted_and_fault}

@@ -1,4 +1,3 @@
-use Rattle.std.proofs.Common.{◌∙◌}
 use Rattle.sel_cli.proofs.Answering.{told_more, answer_of_tree}
 use Rattle.sel_cli.proofs.forest_answers.answer_next.Goals as goal
 

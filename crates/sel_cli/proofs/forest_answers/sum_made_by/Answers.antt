@@ -1,4 +1,4 @@
-use Rattle.std.proofs.Common.{◌∙◌, ◌≡◌, ◌+◌, ◌++◌, ◌∷◌, [], List, length, arith, subst, ap}
+use Rattle.std.proofs.Common.{◌∙◌, ◌≡◌, ◌+◌, ◌++◌, ◌∷◌, [], List, arith}
 use Rattle.std.proofs.lemmas.List.{length_push}
 use Rattle.sel_forest.specs.declared.forest.Tree.{Tree}
 use Rattle.sel_gen.specs.Maker.{Maker, AreToCome}

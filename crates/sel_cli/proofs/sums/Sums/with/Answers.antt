@@ -1,4 +1,4 @@
-use Rattle.std.proofs.Common.{length, refl, ap}
+use Rattle.std.proofs.Common.{length, ap}
 use Rattle.sel_cli.specs.Output.{cost_of}
 use Rattle.sel_cli.proofs.Summing.{uncovered_of, uncovered_more, cost_more}
 use Rattle.sel_cli.proofs.sums.Sums.with.Goals as goal
