@@ -50,9 +50,11 @@ fn is_same(name: &str, wanted: &str) -> bool {
 fn parts_of<'a>(job: Job<'a>) -> (&'a str, &'a str) {
     match job {
         Job::PrintGrammar => ("print", ""),
+        Job::Make => ("make", ""),
         Job::OverForest(Mode::Print, forest) => ("print", forest),
         Job::OverForest(Mode::Cover, forest) => ("cover", forest),
         Job::OverForest(Mode::Select, forest) => ("select", forest),
+        Job::OverForest(Mode::Summary, forest) => ("summary", forest),
     }
 }
 
@@ -133,6 +135,25 @@ fn options_stand_in_any_place_and_plain_words_in_order(rt: HostRuntime) -> Resul
             words: "select g --states=16 f",
             done: "select",
             settings: [4, 16, 65_536, 1, 1_000, 64],
+            ..PLAIN
+        },
+        // A summary of a forest, and of one that is made.
+        Case {
+            words: "summary g f",
+            done: "summary",
+            ..PLAIN
+        },
+        Case {
+            words: "make g",
+            done: "make",
+            forest: "",
+            ..PLAIN
+        },
+        Case {
+            words: "make --seed=7 g --trees 16000 --size=1000",
+            done: "make",
+            forest: "",
+            settings: [4, 4_096, 65_536, 7, 16_000, 1_000],
             ..PLAIN
         },
         // A grammar or a forest in print.
