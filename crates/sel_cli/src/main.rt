@@ -55,6 +55,8 @@ mod tests;
 #[cfg(test)]
 mod tests_grammars;
 #[cfg(test)]
+mod tests_made;
+#[cfg(test)]
 mod tests_select;
 #[cfg(test)]
 mod tests_summary;

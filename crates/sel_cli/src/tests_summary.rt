@@ -246,7 +246,7 @@ fn larger_made_forests_are_no_command(rt: HostRuntime) -> Result<(), Fail> {
     Ok(())
 }
 
-// Ten thousand trees of the grammar that the words name have covers, and their sums are those that other
+// A thousand trees of the grammar that the words name have covers, and their sums are those that other
 // words tell.
 fn are_covered(
     rt: &(impl Abort + Threads + Sync),
@@ -260,7 +260,7 @@ fn are_covered(
     assert!(rt;
         end.out
             .bytes()
-            .starts_with(b"trees 10000\nuncovered 0\ncost ")
+            .starts_with(b"trees 1000\nuncovered 0\ncost ")
     );
     assert_eq!(rt; other.status, Status::Done);
     assert_eq!(rt; end.out.bytes(), other.out.bytes());
@@ -271,29 +271,29 @@ fn are_covered(
 fn forests_made_of_shipped_grammars_are_covered(rt: HostRuntime) -> Result<(), Fail> {
     let alloc = rt.alloc();
     let alone = Case {
-        words: &["make", "@rv64i", "--trees", "10000", "--workers", "1"],
+        words: &["make", "@rv64i", "--trees", "1000", "--workers", "1"],
         ..PLAIN
     };
     let beside = Case {
-        words: &["make", "@rv64i", "--trees", "10000", "--workers", "8"],
+        words: &["make", "@rv64i", "--trees", "1000", "--workers", "8"],
         ..PLAIN
     };
     are_covered(&rt, alloc, &alone, &beside)?;
     let many = Case {
-        words: &["make", "@aarch64", "--trees", "10000"],
+        words: &["make", "@aarch64", "--trees", "1000"],
         ..PLAIN
     };
     let few = Case {
-        words: &["make", "@aarch64", "--trees", "10000", "--states", "5"],
+        words: &["make", "@aarch64", "--trees", "1000", "--states", "5"],
         ..PLAIN
     };
     are_covered(&rt, alloc, &many, &few)?;
     let kept = Case {
-        words: &["make", "@x86-64", "--seed", "7", "--trees", "10000"],
+        words: &["make", "@x86-64", "--seed", "7", "--trees", "1000"],
         ..PLAIN
     };
     let lost = Case {
-        words: &["make", "--seed=7", "@x86-64", "--trees=10000", "--rows=0"],
+        words: &["make", "--seed=7", "@x86-64", "--trees=1000", "--rows=0"],
         ..PLAIN
     };
     are_covered(&rt, alloc, &kept, &lost)
