@@ -12,6 +12,7 @@ pub mod Stepping
 pub mod Lawful
 pub mod Standing
 pub mod LineLoop
+pub mod LineEnds
 pub mod ForestLoop
 pub mod Guessing
 pub mod OneForest

@@ -1,11 +1,10 @@
 -- A printed forest: how it grows tree by tree, and that it spells the forest.
-use Rattle.std.proofs.Common.{◌≡◌, ℕ, zero, suc, ◌+◌, ◌<◌, ◌≤◌, ◌==◌, Bool, true, false, not, ◌&&◌, Option, Some, None, List, [], ◌∷◌, ◌++◌, refl, ap, sym, ◌∙◌, subst, arith, append_assoc, slice_get, codes, length, take, slice_index_or, add-one}
-use Rattle.std.specs.Prelude.{map, flat_map, option_map}
-use Rattle.std.specs.List.{list_all, slice_split, onto_first}
-use Rattle.std.specs.Fmt.{decimal, signed_decimal}
+use Rattle.std.proofs.Common.{◌≡◌, ℕ, suc, ◌+◌, ◌<◌, ◌≤◌, ◌==◌, Bool, true, false, not, ◌&&◌, Some, List, [], ◌∷◌, ◌++◌, refl, ap, sym, ◌∙◌, subst, append_assoc, slice_get, codes, length, take, slice_index_or, add-one}
+use Rattle.std.specs.Prelude.{map, option_map}
+use Rattle.std.specs.List.{list_all, onto_first}
 use Rattle.std.proofs.Math.Seq.{take-suc}
 use Rattle.std.proofs.lemmas.Grind.{flat_map-append}
-use Rattle.std.proofs.lemmas.List.{map-append, take_all}
+use Rattle.std.proofs.lemmas.List.{map-append}
 use Rattle.std.proofs.lemmas.List.Splits.{slice_split-cons_yes, slice_split-cons_no}
 use Rattle.std.proofs.lemmas.Option.{slice_get-map, slice_get_read}
 use Rattle.sel_grammar.specs.declared.grammar.Grammar.{Grammar}
@@ -14,10 +13,9 @@ use Rattle.sel_forest.specs.declared.forest.Tree.{Tree}
 use Rattle.sel_forest.specs.declared.forest.Forest.{Forest}
 use Rattle.sel_forest.specs.ForestText.{SpellsLine, LinesSpell, no_lines, blank_line, tree_line, lines_of, SpellsForest}
 use Rattle.sel_forest.specs.Postorder.{IsPostorderOf, postorder}
-use Rattle.sel_forest.specs.Printed.{operator_name, attribute_text, tree_text, forest_text, tree_of, HasNames, IsPrinted}
+use Rattle.sel_forest.specs.Printed.{tree_text, forest_text, tree_of, HasNames, IsPrinted}
 use Rattle.sel_forest.specs.Valid.{IsValidTree, IsValidForest, IsOver, depth}
 use Rattle.sel_forest.specs.Limits.{most_nodes, greatest_depth}
-use Rattle.sel_forest.proofs.Matching.{some_same}
 use Rattle.sel_forest.proofs.Roots.{plain_one}
 use Rattle.sel_forest.proofs.PlaceLemmas.{append-none}
 use Rattle.sel_forest.proofs.Rereading.{tree_tokens, tree_spelled, tree_cut, tree_inside}
@@ -43,16 +41,10 @@ printed_next g trees tree t text text' h postorder e = record {
 pub tree_at : (g : Grammar) (forest : Forest) (k : ℕ) (tree : Tree) → IsValidForest g forest → k < length forest.trees → tree ≡ slice_index_or forest.trees k tree → IsValidTree g tree
 tree_at g forest k tree valid lt is = valid.trees k tree (slice_get_read forest.trees (length forest.trees) k tree refl lt is)
 
-pub printed_at : (g : Grammar) (forest : Forest) (k : ℕ) (tree : Tree) (t : PlainTree) (text mid text' : List ℕ) → k < length forest.trees → tree ≡ slice_index_or forest.trees k tree → IsPostorderOf tree t
-    → IsPrinted g (record { trees = take k forest.trees }) text → mid ≡ text ++ tree_text g t → text' ≡ mid ++ codes "\n" → IsPrinted g (record { trees = take (k + 1) forest.trees }) text'
-printed_at g forest k tree t text mid text' lt is postorder h e e' =
-    let there : take (k + 1) forest.trees ≡ take k forest.trees ++ tree ∷ [] =
-    subst (λ t. take (k + 1) forest.trees ≡ take k forest.trees ++ t ∷ []) (sym is) (ap (λ k. take k forest.trees) (add-one k) ∙ take-suc forest.trees k tree lt) in
-    subst (λ trees. IsPrinted g (record { trees = trees }) text') (sym there)
-    (printed_next g (take k forest.trees) tree t text text' h postorder (e' ∙ ap (λ x. x ++ codes "\n") e ∙ append_assoc text (tree_text g t) (codes "\n")))
-
-pub printed_whole : (g : Grammar) (forest : Forest) (k : ℕ) (text : List ℕ) → length forest.trees ≤ k → IsPrinted g (record { trees = take k forest.trees }) text → IsPrinted g forest text
-printed_whole g forest k text h p = subst (λ trees. IsPrinted g (record { trees = trees }) text) (take_all k forest.trees h) p
+-- the first trees of a forest, and one more
+pub taken_next : (forest : Forest) (k : ℕ) (tree : Tree) → k < length forest.trees → tree ≡ slice_index_or forest.trees k tree → take (k + 1) forest.trees ≡ take k forest.trees ++ tree ∷ []
+taken_next forest k tree lt is =
+    subst (λ t. take (k + 1) forest.trees ≡ take k forest.trees ++ t ∷ []) (sym is) (ap (λ k. take k forest.trees) (add-one k) ∙ take-suc forest.trees k tree lt)
 
 -- The lines of a text that is put together of lines.
 lines_cut : (line rest : List ℕ) → list_all (λ b. not (b == 10)) line ≡ true → lines_of (line ++ (10 ∷ rest)) ≡ line ∷ lines_of rest

@@ -1,10 +1,9 @@
 -- The tokens of a printed tree: its line is cut into them, and they spell the tree.
-use Rattle.std.proofs.Common.{◌≡◌, ℕ, zero, suc, ◌+◌, ◌<◌, ◌≤◌, ◌==◌, ◌^◌, Bool, true, false, not, ◌&&◌, ◌||◌, if◌then◌else◌, Option, Some, None, List, [], ◌∷◌, ◌++◌, refl, ap, sym, ◌∙◌, subst, arith, append_assoc, slice_get, codes, length, take, drop, pos, negsuc, neg_ℤ, ℤ}
-use Rattle.std.specs.Prelude.{bytes_eq, take_while, ◌≤ℤ◌, ◌<ℤ◌}
+use Rattle.std.proofs.Common.{◌≡◌, ℕ, zero, suc, ◌+◌, ◌<◌, ◌==◌, ◌^◌, Bool, true, false, not, ◌&&◌, ◌||◌, Some, List, [], ◌∷◌, ◌++◌, refl, ap, sym, ◌∙◌, subst, arith, append_assoc, slice_get, codes, length, take, drop, pos, negsuc, neg_ℤ, ℤ}
+use Rattle.std.specs.Prelude.{bytes_eq, take_while}
 use Rattle.std.specs.List.{list_all, prefix_len}
 use Rattle.std.specs.Char.{is_ascii_digit, digit_value}
 use Rattle.std.specs.Fmt.{decimal, signed_decimal}
-use Rattle.std.specs.Int.{IsInRange}
 use Rattle.std.specs.Str.Parse.{digits_value, AllDigits}
 use Rattle.std.proofs.Math.Seq.{take-append_seam, drop-append_seam}
 use Rattle.std.proofs.lemmas.List.Folds.{list_all-append}
@@ -19,7 +18,7 @@ use Rattle.sel_grammar.specs.declared.grammar.Operator.{Operator}
 use Rattle.sel_grammar.specs.PlainTrees.{PlainTree, Node0, Node1, Node2}
 use Rattle.sel_forest.specs.Printed.{operator_name, name_of, attribute_text, tree_text, HasNames}
 use Rattle.sel_forest.specs.Symbols.{is_blank, is_letter, is_name_byte, is_symbol_start, is_symbol_byte, IsName, IsSymbol}
-use Rattle.sel_forest.specs.Tokens.{Token, Name, Number, Symbol, Colon, Open, Comma, Close, End, token_of, skip, width, is_colon, begins_with_digit, Spot, token_at, behind, first, start, IsCutInto}
+use Rattle.sel_forest.specs.Tokens.{Token, Name, Number, Symbol, Colon, Open, Comma, Close, token_of, skip, width, is_colon, Spot, token_at, behind, first, start, IsCutInto}
 use Rattle.sel_forest.specs.TreeText.{operator_number, value_of, SpellsAttribute, no_attribute, a_number, a_symbol, SpellsTree, no_kids, one_kid, two_kids}
 use Rattle.sel_forest.specs.Valid.{IsOperatorOf, IsAttribute, IsOver}
 

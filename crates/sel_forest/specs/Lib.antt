@@ -17,4 +17,5 @@ pub mod Covers
 pub mod Goals
 pub mod Printed
 pub mod Printing
+pub mod Reprinted
 pub mod Laws

@@ -1,10 +1,12 @@
--- What a tree's printing keeps on its stack.
+-- What printing keeps on its stack.
 use Rattle.std.specs.Prelude.{◌≡◌, ℕ, ◌==◌, if◌then◌else◌, Option, Some, None, List, ◌++◌, [], ◌∷◌, codes, slice_get}
 use Rattle.sel_grammar.specs.declared.grammar.Grammar.{Grammar}
 use Rattle.sel_forest.specs.declared.forest.Node.{Node}
 use Rattle.sel_forest.specs.declared.print.Task.{Task}
 use Rattle.sel_forest.specs.declared.print.Task.TheVariants as task
-use Rattle.sel_forest.specs.Printed.{operator_name, attribute_text}
+use Rattle.sel_forest.specs.declared.forest.Tree.{Tree}
+use Rattle.sel_forest.specs.declared.print.Printer.{Printer}
+use Rattle.sel_forest.specs.Printed.{operator_name, attribute_text, IsPrinted}
 
 -- a parenthesis where there are kids
 abbrev pub opening : Node → List ℕ
@@ -40,3 +42,8 @@ abbrev pub task_below : List Node → Task → List Task
 task_below nodes (task.Tree at) = tasks_at (slice_get nodes at)
 task_below nodes task.Comma = []
 task_below nodes task.Close = []
+
+-- these trees are printed, each on a line, and nothing is begun
+pub record HasPrinted (g : Grammar) (printer : Printer) (trees : List Tree) : Type 0 where
+  pub printed : IsPrinted g (record { trees = trees }) printer.text.items
+  pub idle : printer.tasks.items ≡ []

@@ -13,12 +13,13 @@ mod number;
 mod print;
 mod read;
 mod refusal;
+mod taker;
 mod tokens;
 mod walk;
 
 pub use check::check_cover;
 pub use forest::{Cover, Forest, Node, Tree};
-pub use print::print_forest;
+pub use print::{print_forest, reprint_forest};
 pub use read::read_forest;
 pub use refusal::{ForestFault, ForestRefusal};
 pub use sel_grammar::Attribute;

@@ -1,14 +1,21 @@
 //! Forests printed as text.
 
-ghost use Rattle.std.specs.Prelude.{◌≡◌, ◌++◌, [], IfOk, OnOk, ℕ};
+ghost use Rattle.std.specs.Prelude.{◌≡◌, ◌++◌, ◌∷◌, ◌<◌, [], List, length, IfOk, IfErr, OnOk};
 ghost use Rattle.sel_grammar.specs.PlainTrees.{PlainTree};
-ghost use Rattle.sel_forest.specs.ForestText.{SpellsForest};
+ghost use Rattle.sel_grammar.specs.Limits.{IsWithinLimits};
+ghost use Rattle.sel_grammar.specs.declared.grammar.Grammar.{Grammar as AnyGrammar};
+ghost use Rattle.sel_forest.specs.declared.forest.Tree.{Tree as AnyTree};
+ghost use Rattle.sel_forest.specs.ForestText.{SpellsForest, IsForestRefusal};
 ghost use Rattle.sel_forest.specs.Postorder.{IsPostorderOf, IsTree};
 ghost use Rattle.sel_forest.specs.Printed.{attribute_text, tree_text, operator_name, HasNames, IsPrinted};
-ghost use Rattle.sel_forest.specs.Printing.{opening, node_tasks, head_text, task_text, task_below};
+ghost use Rattle.sel_forest.specs.Printing.{opening, node_tasks, head_text, task_text, task_below, HasPrinted};
+ghost use Rattle.sel_forest.specs.Reprinted.{IsReprinted};
 ghost use Rattle.sel_forest.specs.Valid.{IsValidForest};
 
 use crate::forest::{Forest, Node, Tree};
+use crate::read::read_trees;
+use crate::refusal::ForestRefusal;
+use crate::taker::Taker;
 use crate::walk::node_at;
 use itoa::Buffer;
 use sel_base::{List, NoMemory};
@@ -116,19 +123,6 @@ fn perform(
     Ok(())
 }
 
-/// Room for the tree's names and marks, at a byte each. Printing goes up and down the tree, so the
-/// nodes are first read here in their order, which brings them near.
-fn reserve(tree: &Tree, text: &mut Vec<u8>) -> Result<(), NoMemory>
-    ensures { OnOk result (text.new.items ≡ text.old.items) }
-{
-    let mut marks: usize = 0;
-    'nodes: for node in tree.nodes.as_slice() {
-        marks = marks.saturating_add(1 + node.kids as usize);
-    }
-    text.reserve(marks)?;
-    Ok(())
-}
-
 /// Prints a tree. The stack is empty before and behind it.
 fn print_tree(
     grammar: &Grammar,
@@ -149,6 +143,50 @@ fn print_tree(
     Ok(())
 }
 
+/// Prints trees, each on a line. Between two trees the stack is empty.
+#[derive(Drop)]
+pub struct Printer {
+    tasks: Vec<Task>,
+    text: Vec<u8>,
+}
+
+impl Printer {
+    pub fn new(alloc: Global) -> Printer
+        ensures { (g : AnyGrammar) → HasPrinted g result [] }
+    {
+        Printer {
+            tasks: Vec::new(alloc),
+            text: Vec::new(alloc),
+        }
+    }
+
+    /// Prints a tree behind the others.
+    pub fn print(&mut self, grammar: &Grammar, tree: &Tree) -> Result<(), NoMemory>
+        requires so_far { (trees : List AnyTree) × HasPrinted grammar.now self.old trees }
+        requires tree { IsTree tree.now }
+        ensures { (trees : List AnyTree) → HasPrinted grammar.now self.old trees → OnOk result (HasPrinted grammar.now self.new (trees ++ tree.now ∷ [])) }
+    {
+        print_tree(grammar, tree, &mut self.tasks, &mut self.text)?;
+        put(&mut self.text, b"\n")?;
+        Ok(())
+    }
+
+    /// What is printed.
+    pub fn into_text(self) -> List<u8>
+        ensures { (g : AnyGrammar) (trees : List AnyTree) → HasPrinted g self trees → IsPrinted g (record { trees = trees }) result }
+    {
+        List::from_vec(self.text)
+    }
+}
+
+impl Taker for Printer {
+    ghost took = { λ printer g trees. HasPrinted g printer trees };
+
+    fn take(&mut self, grammar: &Grammar, tree: Tree) -> Result<(), NoMemory> {
+        self.print(grammar, &tree)
+    }
+}
+
 /// The forest's text: each tree on a line without blanks, and behind each line a line feed. Numbers
 /// are in decimal, with no leading zeros.
 pub fn print_forest(alloc: Global, grammar: &Grammar, forest: &Forest) -> Result<List<u8>, NoMemory>
@@ -156,12 +194,27 @@ pub fn print_forest(alloc: Global, grammar: &Grammar, forest: &Forest) -> Result
     ensures text { IfOk result (λ text. IsPrinted grammar.now forest.now text) }
     ensures again { HasNames grammar.now → IfOk result (λ text. SpellsForest grammar.now text forest.now) }
 {
-    let mut text = Vec::new(alloc);
-    let mut tasks = Vec::new(alloc);
+    let mut printer = Printer::new(alloc);
     'trees: for tree in forest.trees.as_slice() {
-        reserve(tree, &mut text)?;
-        print_tree(grammar, tree, &mut tasks, &mut text)?;
-        put(&mut text, b"\n")?;
+        printer.print(grammar, tree)?;
     }
-    Ok(List::from_vec(text))
+    Ok(printer.into_text())
+}
+
+/// The forest that the text spells under the grammar, in print: what `print_forest` makes of what
+/// `read_forest` gives. Each tree is printed when it is read, so that only one is held at a time.
+pub fn reprint_forest(
+    alloc: Global,
+    grammar: &Grammar,
+    bytes: &[u8],
+) -> Result<List<u8>, ForestRefusal>
+    requires within { IsWithinLimits grammar.now }
+    requires short { length bytes.now < 4294967295 }
+    ensures ok { IfOk result (λ text. IsReprinted grammar.now bytes.now text) }
+    ensures again { HasNames grammar.now → IfOk result (λ text. IsReprinted grammar.now text text) }
+    ensures fault { IfErr result (λ refusal. IsForestRefusal grammar.now bytes.now refusal) }
+{
+    let mut printer = Printer::new(alloc);
+    read_trees(alloc, grammar, bytes, &mut printer)?;
+    Ok(printer.into_text())
 }

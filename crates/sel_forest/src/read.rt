@@ -7,7 +7,8 @@ ghost use Rattle.sel_forest.specs.ForestText.{lines_of, SpellsForest, IsForestRe
 ghost use Rattle.sel_forest.specs.Guesses.{AreGuesses};
 ghost use Rattle.sel_forest.specs.Limits.{most_trees};
 ghost use Rattle.sel_forest.specs.Pieces.{lines_behind};
-ghost use Rattle.sel_forest.specs.Valid.{IsValidForest};
+ghost use Rattle.sel_forest.specs.Valid.{IsValidForest, IsValidTree};
+ghost use Rattle.sel_forest.specs.declared.forest.Tree.{Tree as AnyTree};
 
 use crate::build::{finish, take};
 use crate::faults::kind_of;
@@ -16,7 +17,9 @@ use crate::guess::{guesses_of, operator_named};
 use crate::limits::{MOST_NODES, TOKEN};
 use crate::line::{State, step, wants_attribute};
 use crate::refusal::{ForestFault, ForestRefusal};
+use crate::taker::Taker;
 use crate::tokens::next_token;
+use memchr::memchr;
 use sel_base::{List, NoMemory};
 use sel_grammar::Grammar;
 use std::alloc::Global;
@@ -28,11 +31,15 @@ struct Cut<'a> {
     rest: Option<&'a [u8]>,
 }
 
+/// How many bytes stand before the first line feed, or in all where there is none.
 fn line_len(bytes: &[u8]) -> usize
     ensures len { result ≡ prefix_len (λ b. not (b == 10)) bytes.now }
     ensures fits { result ≤ length bytes.now }
 {
-    bytes.iter().take_while(|b| **b != b'\n').count()
+    match memchr(b'\n', bytes) {
+        Some(at) => at,
+        None => bytes.len(),
+    }
 }
 
 fn behind(bytes: &[u8], count: usize) -> &[u8]
@@ -142,13 +149,59 @@ fn read_line(
     }
 }
 
-fn add(trees: &mut List<Tree>, tree: Option<Tree>) -> Result<(), NoMemory>
-    ensures { OnOk result (trees.new ≡ trees.old ++ option_to_list tree) }
+/// Hands a line's tree on, where it has one, and counts it.
+fn hand_on<T: Taker>(
+    taker: &mut T,
+    grammar: &Grammar,
+    tree: Option<Tree>,
+    trees: usize,
+) -> Result<usize, NoMemory>
+    requires so_far { (taken : List AnyTree) × T.took taker.old grammar.now taken }
+    requires valid { IfSome tree (λ tree. IsValidTree grammar.now tree) }
+    requires few { OnSome tree (trees < most_trees) }
+    ensures took { (taken : List AnyTree) → T.took taker.old grammar.now taken → OnOk result (T.took taker.new grammar.now (taken ++ option_to_list tree)) }
+    ensures count { IfOk result (λ count. count ≡ trees + length (option_to_list tree)) }
 {
-    if let Some(tree) = tree {
-        trees.push(tree)?;
+    match tree {
+        None => Ok(trees),
+        Some(tree) => {
+            taker.take(grammar, tree)?;
+            Ok(trees + 1)
+        }
     }
-    Ok(())
+}
+
+/// Hands on the trees that the text spells under the grammar, in their order. A tree is handed on
+/// before the next line is read.
+pub fn read_trees<T: Taker>(
+    alloc: Global,
+    grammar: &Grammar,
+    bytes: &[u8],
+    taker: &mut T,
+) -> Result<(), ForestRefusal>
+    requires within { IsWithinLimits grammar.now }
+    requires short { length bytes.now < 4294967295 }
+    requires none { T.took taker.old grammar.now [] }
+    ensures ok { OnOk result ((trees : List AnyTree) × SpellsForest grammar.now bytes.now (record { trees = trees }) × T.took taker.new grammar.now trees) }
+    ensures fault { IfErr result (λ refusal. IsForestRefusal grammar.now bytes.now refusal) }
+{
+    let guesses = guesses_of(alloc, grammar)?;
+    let mut stack = Vec::new(alloc);
+    let mut trees = 0;
+    let mut number = 1;
+    let mut rest = bytes;
+    'lines: loop {
+        let cut = first_line(rest);
+        let tree = read_line(
+            alloc, grammar, &guesses, trees, number, cut.line, &mut stack,
+        )?;
+        trees = hand_on(taker, grammar, tree, trees)?;
+        let Some(behind) = cut.rest else {
+            return Ok(());
+        };
+        rest = behind;
+        number += 1;
+    }
 }
 
 /// The forest that the text spells under the grammar. Each line has one tree, or blanks alone. A tree
@@ -166,27 +219,7 @@ pub fn read_forest(alloc: Global, grammar: &Grammar, bytes: &[u8]) -> Result<For
     ensures valid { IfOk result (λ forest. IsValidForest grammar.now forest) }
     ensures fault { IfErr result (λ refusal. IsForestRefusal grammar.now bytes.now refusal) }
 {
-    let guesses = guesses_of(alloc, grammar)?;
     let mut trees = List::new(alloc);
-    let mut stack = Vec::new(alloc);
-    let mut number = 1;
-    let mut rest = bytes;
-    'lines: loop {
-        let cut = first_line(rest);
-        let tree = read_line(
-            alloc,
-            grammar,
-            &guesses,
-            trees.len(),
-            number,
-            cut.line,
-            &mut stack,
-        )?;
-        add(&mut trees, tree)?;
-        let Some(behind) = cut.rest else {
-            return Ok(Forest { trees });
-        };
-        rest = behind;
-        number += 1;
-    }
+    read_trees(alloc, grammar, bytes, &mut trees)?;
+    Ok(Forest { trees })
 }

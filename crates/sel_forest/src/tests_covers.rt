@@ -3,6 +3,7 @@ ghost use Rattle.std.specs.Prelude.{◌≡◌, ◌+◌, ◌<◌, ◌≤◌, leng
 ghost use Rattle.sel_grammar.specs.Limits.{IsArity, IsWithinLimits};
 
 use super::*;
+use crate::limits::{ARITY, NUMBER_LARGE, TOKEN, UNKNOWN_OPERATOR};
 use crate::tests::{declare, name, repeated, small_grammar};
 use sel_base::{List, Name, NoMemory, Range};
 use sel_grammar::{Grammar, Operator, Pattern, Rule, RuleCost, Template};
@@ -274,16 +275,24 @@ fn a_list_is_a_derivations_or_is_refused(rt: HostRuntime) {
     assert!(rt; matches!(first_wrong(rt.alloc(), &cases), Ok(None)));
 }
 
-// The forest of the text, printed. The empty text stands for a refusal, with a mark before it.
+// The forest of the text in print, made of the forest and of the text. A text of words stands for a refusal.
 fn printed(alloc: Global, grammar: &Grammar, text: &[u8]) -> Result<Vec<u8>, NoMemory>
     requires { IsWithinLimits grammar.now }
 {
     if text.len() > 1_000_000 {
         return Ok(Vec::from_slice(alloc, b"too long")?);
     }
-    match read_forest(alloc, grammar, text) {
-        Err(_) => Ok(Vec::from_slice(alloc, b"refused")?),
-        Ok(forest) => Ok(print_forest(alloc, grammar, &forest)?.into_vec()),
+    let Ok(forest) = read_forest(alloc, grammar, text) else {
+        return Ok(Vec::from_slice(alloc, b"refused")?);
+    };
+    let Ok(again) = reprint_forest(alloc, grammar, text) else {
+        return Ok(Vec::from_slice(alloc, b"refused to be reprinted")?);
+    };
+    let first = print_forest(alloc, grammar, &forest)?;
+    if first.as_slice() == again.as_slice() {
+        Ok(again.into_vec())
+    } else {
+        Ok(Vec::from_slice(alloc, b"not the same")?)
     }
 }
 
@@ -338,5 +347,25 @@ fn deep_and_wide_trees_are_printed(rt: HostRuntime) {
             panic!(rt; "no memory");
         };
         assert!(rt; line.as_slice() == text.as_slice());
+    }
+}
+
+#[test]
+fn a_refused_text_is_not_printed(rt: HostRuntime) {
+    let alloc = rt.alloc();
+    let Some(grammar) = small_grammar(alloc).ok() else {
+        panic!(rt; "no memory");
+    };
+    for (text, kind, line, column) in [
+        ("FOO(ADDR:x)", UNKNOWN_OPERATOR, 1, 1),
+        ("ADDR\nADD(CNST:1)\nADDR", ARITY, 2, 11),
+        ("ADDR\n\nADDR:x,ADDR", TOKEN, 3, 7),
+        ("REG\nCNST:9223372036854775808", NUMBER_LARGE, 2, 6),
+    ] {
+        let wanted = ForestFault { kind, line, column };
+        match reprint_forest(alloc, &grammar, text.as_bytes()) {
+            Err(ForestRefusal::Fault(fault)) => assert_eq!(rt; fault, wanted, "at {text}"),
+            _ => panic!(rt; "no fault"),
+        }
     }
 }

@@ -1,5 +1,5 @@
 -- Each turn performs the last task of the stack.
-use Rattle.std.proofs.Common.{◌≡◌, ◌++◌, ◌∷◌, [], ◌-◌, refl, sym, ap, ◌∙◌, subst, length, reverse}
+use Rattle.std.proofs.Common.{◌++◌, ◌∷◌, [], ◌-◌, refl, sym, ap, ◌∙◌, subst, length, reverse}
 use Rattle.sel_forest.specs.declared.print.Task.TheVariants as task
 use Rattle.sel_forest.specs.Printed.{tree_text}
 use Rattle.sel_forest.proofs.Roots.{some_node}

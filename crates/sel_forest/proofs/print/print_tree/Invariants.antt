@@ -1,4 +1,4 @@
-use Rattle.std.proofs.Common.{◌≡◌, ◌++◌, reverse}
+use Rattle.std.proofs.Common.{◌++◌, reverse}
 use Rattle.sel_grammar.specs.PlainTrees.{PlainTree}
 use Rattle.sel_forest.specs.Postorder.{IsPostorderOf}
 use Rattle.sel_forest.specs.Printed.{tree_text}
