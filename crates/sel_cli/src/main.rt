@@ -5,6 +5,7 @@
 mod answers;
 mod command_line;
 mod forest_answers;
+mod forest_job;
 mod lines;
 mod output;
 mod report;

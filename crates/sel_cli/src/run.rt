@@ -3,7 +3,6 @@ ghost use Rattle.std.specs.Prelude.{◌≡◌, ◌≢◌, ◌≤◌, ◌⊎◌, 
 ghost use Rattle.std.specs.Io.KnownBytes.{append_known};
 ghost use Rattle.sel_base.specs.Causes.{Rose};
 ghost use Rattle.sel_grammar.specs.declared.grammar.Grammar.{Grammar as AnyGrammar};
-ghost use Rattle.sel_forest.specs.Valid.{IsValidForest};
 ghost use Rattle.sel_forest.specs.declared.forest.Forest.{Forest as AnyForest};
 ghost use Rattle.sel_items.specs.Laws.{IsAcceptedForm};
 ghost use Rattle.sel_cli.specs.declared.status.Status.{Status as AnyStatus};
@@ -16,15 +15,15 @@ ghost use Rattle.sel_cli.specs.Parts.{PutsFor};
 ghost use Rattle.sel_cli.specs.Lines.{status_line};
 
 use crate::forest_answers::sum_made_forest;
+use crate::forest_job::forest_output;
 use crate::lines::tell;
-use crate::output::{Output, forest_output, grammar_output};
+use crate::output::{Output, grammar_output};
 use crate::report::Report;
 use crate::settings::Settings;
 use crate::status::Status;
-use crate::texts::{Accepted, accept_forest, accept_grammar};
+use crate::texts::{Accepted, accept_grammar};
 use crate::words::{Command, Job, Mode, read_words};
 use sel_base::{Gate, NoMemory, Shelf, Sink, SinkFault, write_all_of};
-use sel_forest::Forest;
 use sel_grammar::Grammar;
 use std::alloc::Global;
 use std::marker::Sync;
@@ -94,30 +93,6 @@ fn make<K: Sink, G: Gate>(
     }
 }
 
-// Answers or prints the accepted forest.
-fn answer<K: Sink, G: Gate>(
-    alloc: Global,
-    mode: Mode,
-    accepted: &Accepted,
-    settings: Settings,
-    forest: &Forest,
-    out: &mut K,
-    gate: &G,
-) -> Status
-    requires form { IsAcceptedForm accepted.now.grammar accepted.now.normal }
-    requires settings { AreWithinBounds settings }
-    requires valid { IsValidForest accepted.now.grammar forest.now }
-    ensures ends { (name : List ℕ) → (bytes : List ℕ) × WritesJobFor (OverForest mode name) accepted.now.grammar (Some forest.now) (K.faults out.old) (K.faults out.new) bytes result
-        × (K.taken out.new ≡ append_known (K.taken out.old) bytes) }
-    ensures later { K.faults out.old ≤ K.faults out.new }
-    ensures quiet { (result ≢ Status.WriteFault) → K.faults out.new ≡ K.faults out.old }
-{
-    match forest_output(alloc, mode, accepted, settings, forest, gate) {
-        Ok(output) => write_output(out, &output),
-        Err(NoMemory) => Status::NoMemory,
-    }
-}
-
 // Reads the forest of this name under the accepted grammar, and answers or prints it.
 fn serve_forest<'a, S: Shelf, K: Sink, G: Gate>(
     alloc: Global,
@@ -145,10 +120,9 @@ fn serve_forest<'a, S: Shelf, K: Sink, G: Gate>(
     ensures out_quiet { (result.status ≢ Status.WriteFault) → K.faults out.new ≡ K.faults out.old }
     ensures read { ReadsFor (Some (task_for command.entry)) (record { before = S.faults shelf.old; after = S.faults shelf.new; last = S.last shelf.new }) result.status }
 {
-    let settings = command.settings;
-    match accept_forest(alloc, shelf, command, name, &accepted.grammar) {
-        Ok(forest) => Ended {
-            status: answer(alloc, mode, accepted, settings, &forest, out, gate),
+    match forest_output(alloc, command, mode, name, accepted, shelf, gate) {
+        Ok(output) => Ended {
+            status: write_output(out, &output),
             name,
         },
         Err(status) => Ended { status, name },

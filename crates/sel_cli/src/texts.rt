@@ -1,20 +1,17 @@
-// The two texts, read and accepted.
+// The texts, and the grammar that is accepted.
 ghost use Rattle.std.specs.Prelude.{◌≡◌, ◌≤◌, Some, None, length, IfOk, IfErr, IfSome, IsErrOf, OnOk};
-ghost use Rattle.sel_grammar.specs.Limits.{IsWithinLimits};
 ghost use Rattle.sel_grammar_text.specs.GrammarText.{SpellsGrammar};
-ghost use Rattle.sel_forest.specs.Valid.{IsValidForest};
 ghost use Rattle.sel_items.specs.Laws.{IsAcceptedForm};
 ghost use Rattle.sel_cli.specs.Names.{task_for, source_for, IsShort};
-ghost use Rattle.sel_cli.specs.Texts.{MayBe, HasGrammarText, AcceptsGrammar, AcceptsForest, grammar_limit};
+ghost use Rattle.sel_cli.specs.Texts.{MayBe, HasGrammarText, AcceptsGrammar, grammar_limit};
 ghost use Rattle.sel_cli.specs.Ends.{StopsFor, WasRead, ReadsFor};
-ghost use Rattle.sel_cli.specs.Words.{Task, grammar_name, forest_name};
+ghost use Rattle.sel_cli.specs.Words.{Task, grammar_name};
 ghost use Rattle.sel_cli.specs.Parts.{FetchesFor, JudgedFor};
 
 use crate::status::Status;
 use crate::text::put;
 use crate::words::{Command, GrammarSource};
 use sel_base::{NoMemory, Shelf, ShelfFault};
-use sel_forest::{Forest, ForestRefusal, read_forest};
 use sel_grammar::{Grammar, GrammarRefusal};
 use sel_grammar_text::read_grammar;
 use sel_normal::Normal;
@@ -23,10 +20,8 @@ use std::alloc::Global;
 /// The greatest length of a grammar's text, in bytes.
 const GRAMMAR_LIMIT: usize = 16_777_216;
 
-/// The greatest length of a forest's text, in bytes.
-const FOREST_LIMIT: usize = 67_108_864;
-
-fn fetch<S: Shelf>(
+/// The text of this name, of at most so many bytes.
+pub fn fetch<S: Shelf>(
     alloc: Global,
     shelf: &mut S,
     name: &str,
@@ -132,37 +127,5 @@ pub fn accept_grammar<S: Shelf>(
         Ok(accepted) => Ok(accepted),
         Err(GrammarRefusal::Fault(fault)) => Err(Status::BadGrammar(fault)),
         Err(GrammarRefusal::NoMemory) => Err(Status::NoMemory),
-    }
-}
-
-/// The forest that the text of this name, which is the command's, spells under the accepted grammar.
-pub fn accept_forest<S: Shelf>(
-    alloc: Global,
-    shelf: &mut S,
-    command: Command<'_>,
-    name: &str,
-    grammar: &Grammar,
-) -> Result<Forest, Status>
-    requires grammar { AcceptsGrammar MayBe (record { wanted = Some (task_for command); held = S.held shelf.old }) (task_for command) grammar.now }
-    requires limits { IsWithinLimits grammar.now }
-    requires named { forest_name (task_for command).job ≡ Some name.now }
-    ensures accepted { IfOk result (AcceptsForest MayBe (record { wanted = Some (task_for command.entry); held = S.held shelf.old }) (task_for command.entry) grammar.now) }
-    ensures valid { IfOk result (λ forest. IsValidForest grammar.now forest) }
-    ensures refused { IfErr result (StopsFor (record { wanted = Some (task_for command.entry); held = S.held shelf.old })
-        (record { before = S.faults shelf.old; after = S.faults shelf.new; last = S.last shelf.new }) name.now) }
-    ensures unchanged { S.held shelf.new ≡ S.held shelf.old }
-    ensures later { S.faults shelf.old ≤ S.faults shelf.new }
-    ensures quiet { (¬ IsErrOf result Status.ReadFault) → S.faults shelf.new ≡ S.faults shelf.old }
-    ensures read { OnOk result (WasRead (record { before = S.faults shelf.old; after = S.faults shelf.new; last = S.last shelf.new }) name.now) }
-    ensures unread { IfErr result (ReadsFor (Some (task_for command.entry)) (record { before = S.faults shelf.old; after = S.faults shelf.new; last = S.last shelf.new })) }
-{
-    let text = match fetch(alloc, shelf, name, FOREST_LIMIT) {
-        Ok(text) => text,
-        Err(status) => return Err(status),
-    };
-    match read_forest(alloc, grammar, &text) {
-        Ok(forest) => Ok(forest),
-        Err(ForestRefusal::Fault(fault)) => Err(Status::BadForest(fault)),
-        Err(ForestRefusal::NoMemory) => Err(Status::NoMemory),
     }
 }
