@@ -14,7 +14,7 @@ use Rattle.sel_forest.specs.Valid.{depth, Takes, IsOperatorOf, IsAttribute, IsOv
 use Rattle.sel_forest.specs.Tokens.{Token, Open, Comma, Close, End, Spot, start, token_at, behind, first, after}
 use Rattle.sel_forest.specs.Form.{IsLine, blank}
 use Rattle.sel_forest.specs.TreeText.{operator_number, SpellsAttribute, no_attribute, a_number, a_symbol, SpellsTree, no_kids, one_kid, two_kids, value_of, is_negative, without_sign}
-use Rattle.sel_forest.specs.declared.faults.Parent.{Parent}
+use Rattle.sel_forest.specs.declared.around.Parent.{Parent}
 use Rattle.sel_forest.specs.LineFaults.{Around, around_next, around_from, least_of, most_of, least_kids, most_kids, wants_some, takes_no_further, wants_another, has_wrong_arity, is_too_large, name_kind, unknown_kind, kind_of, without_first, with_whole_kid, HasFault, stray, wrong, HasFirstFault}
 use Rattle.sel_forest.specs.ForestText.{SpellsLine, IsBlankLine}
 use Rattle.sel_forest.specs.declared.line.State.TheVariants.{Start}

@@ -11,7 +11,7 @@ use Rattle.sel_grammar.specs.declared.grammar.Operator.{Operator}
 use Rattle.sel_forest.specs.Guesses.{IsGuess, AreGuesses}
 use Rattle.sel_forest.specs.TreeText.{operator_number}
 
-stops_at : (name : List ℕ) (operators : List Operator) (operator : Operator) → slice_get operators (prefix_len (λ (o : Operator). not (bytes_eq o.name name)) operators) ≡ Some operator
+pub stops_at : (name : List ℕ) (operators : List Operator) (operator : Operator) → slice_get operators (prefix_len (λ (o : Operator). not (bytes_eq o.name name)) operators) ≡ Some operator
     → bytes_eq operator.name name ≡ true
 stops_at name [] operator h = cc
 stops_at name (o ∷ operators) operator h = go (bytes_eq o.name name) refl (stops_at name operators operator)

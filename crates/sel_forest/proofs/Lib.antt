@@ -7,6 +7,7 @@ pub mod Viable
 pub mod Strides
 pub mod Digits
 pub mod PutDown
+pub mod Lasts
 pub mod Reading
 pub mod Stepping
 pub mod Lawful

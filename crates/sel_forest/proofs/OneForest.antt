@@ -9,14 +9,13 @@ use Rattle.sel_forest.specs.Postorder.{postorder}
 use Rattle.sel_forest.specs.Tokens.{Token, Name, Number, Symbol, Open, Comma, Close, End, Spot, start, token_at, behind, first, IsCutInto}
 use Rattle.sel_forest.specs.Form.{Trees, no_trees, tree, below, attribute_tokens, IsAttributeToken, AreTrees, tokens_of, IsLine, blank, one_tree}
 use Rattle.sel_forest.specs.TreeText.{operator_number, SpellsAttribute, no_attribute, a_number, a_symbol, SpellsTree, no_kids, one_kid, two_kids}
-use Rattle.sel_forest.specs.OpenNodes.{Opened, Fresh, Half, Full, whole}
+use Rattle.sel_forest.specs.OpenNodes.{Opened, Fresh, Half, Full, whole, opened_from, opened}
 use Rattle.sel_forest.specs.Machine.{step, run, go}
 use Rattle.sel_forest.specs.declared.line.State.{State}
 use Rattle.sel_forest.specs.declared.line.State.TheVariants.{Start, Ended}
 use Rattle.sel_forest.specs.ForestText.{SpellsLine, IsBlankLine, LinesSpell, no_lines, blank_line, tree_line, lines_of}
 use Rattle.sel_forest.specs.Laws.{ForestIsOne}
 use Rattle.sel_forest.proofs.Viable.{complete}
-use Rattle.sel_forest.proofs.Standing.{opened_from, opened}
 
 -- A tree's tokens are of the form.
 pub record HasForm (ts : List Token) : Type 0 where

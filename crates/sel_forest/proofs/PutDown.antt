@@ -1,16 +1,13 @@
 -- Ending the innermost open node puts its node down behind its kids' nodes.
-use Rattle.std.proofs.Common.{◌≡◌, ℕ, ◌+◌, ◌-◌, ◌<◌, List, [], ◌∷◌, ◌++◌, Option, Some, None, refl, ap, sym, ◌∙◌, arith, length, length-append, append_assoc, append-nil, slice_get, slice_index_or, slice_set, map}
-use Rattle.std.specs.Option.{option_map}
-use Rattle.std.proofs.lemmas.List.{length-map, append_cancel_right}
-use Rattle.std.proofs.Math.Seq.{get_or-append_seam, set-append_seam}
+use Rattle.std.proofs.Common.{◌≡◌, ℕ, ◌+◌, ◌-◌, ◌<◌, ◌≤◌, ◌^◌, List, [], ◌∷◌, ◌++◌, refl, ap, sym, ◌∙◌, arith, length, length-append, append_assoc, append-nil}
 use Rattle.sel_grammar.specs.declared.grammar.Attribute.{Attribute}
 use Rattle.sel_grammar.specs.declared.grammar.Attribute.TheVariants as attribute
 use Rattle.sel_grammar.specs.PlainTrees.{PlainTree, size}
 use Rattle.sel_forest.specs.declared.forest.Node.{Node}
-use Rattle.sel_forest.specs.declared.faults.Parent.{Parent}
+use Rattle.sel_forest.specs.Limits.{most_nodes}
 use Rattle.sel_forest.specs.Postorder.{postorder}
-use Rattle.sel_forest.specs.OpenNodes.{Opened, Fresh, Half, Full, kid_count, whole, kids_nodes, own_node, put_down, own_nodes, attached, with_kid, closed, with_attribute, IsClosable, Holds, parent_of, behind_first, first_parent, first_operator}
-use Rattle.sel_forest.proofs.Roots.{length-postorder, slice_get-right, slice_get-left}
+use Rattle.sel_forest.specs.OpenNodes.{Opened, Fresh, Half, Full, kid_count, whole, kids_nodes, own_node, put_down, own_nodes, attached, with_kid, closed, with_attribute, IsClosable, Holds, total}
+use Rattle.sel_forest.proofs.Roots.{length-postorder}
 
 -- a whole node's list is its kids' lists and its own node
 pub whole_nodes : (base : ℕ) (o : Opened) → postorder base (whole o) ≡ kids_nodes base o ++ (own_node base o ∷ [])
@@ -45,6 +42,17 @@ pub length-own : (os : List Opened) → length (own_nodes os) ≡ length os
 length-own [] = refl
 length-own (o ∷ os) =
     length-append (own_nodes os) (own_node (length (put_down os)) o ∷ []) ∙ (let e : length (own_nodes os) + 1 ≡ length (o ∷ os) = omega (arith, length-own os) in e)
+
+-- The nodes put down and the open ones are all that were named.
+total_is : (os : List Opened) → length (put_down os) + length os ≡ total os
+total_is [] = refl
+total_is (o ∷ os) =
+    let a = length-append (put_down os) (kids_nodes (length (put_down os)) o) in
+    let b = kids_length (length (put_down os)) o in
+    omega (arith, a, b, total_is os)
+
+pub few_nodes : (os : List Opened) (stack nodes : List Node) → Holds os stack nodes → total os ≤ most_nodes → length nodes < 2 ^ 32
+few_nodes os stack nodes h small = let e : length nodes ≡ length (put_down os) = ap length h.nodes_are in omega (arith, e, total_is os)
 
 -- the nodes and the stack after the innermost node ended
 closed_nodes : (inner outer : Opened) (os : List Opened) → HasRoom outer
@@ -109,74 +117,3 @@ close_held (inner ∷ outer ∷ more) stack stack' nodes nodes' h room done =
 -- The root is left: the nodes and it are the tree.
 pub root_nodes : (root : Opened) (stack nodes : List Node) → Holds (root ∷ []) stack nodes → nodes ++ (own_node 0 root ∷ []) ≡ postorder 0 (whole root)
 root_nodes root stack nodes h = ap (λ x. x ++ (own_node 0 root ∷ [])) h.nodes_are ∙ sym (whole_nodes 0 root)
-
--- The innermost node, and the one around it.
-
-abbrev pub as_parent : Node → Parent
-as_parent n = record { operator = n.operator; kids = n.kids }
-
-own_parent : (base : ℕ) (o : Opened) → as_parent (own_node base o) ≡ parent_of o
-own_parent base (Fresh op a) = refl
-own_parent base (Half op a t) = refl
-own_parent base (Full op a t u) = refl
-
-pub last_given_at : (os : List Opened) (stack : List Node) (x : Option Node) (at : ℕ) → stack ≡ own_nodes os → at + 1 ≡ length stack → x ≡ slice_get stack at
-    → option_map as_parent x ≡ first_parent (map parent_of os)
-last_given_at [] stack x at e l g = absurd (omega (arith, ap length e))
-last_given_at (o ∷ os) stack x at e l g =
-    let n = own_node (length (put_down os)) o in
-    let b : length (own_nodes (o ∷ os)) ≡ length (own_nodes os) + 1 = length-append (own_nodes os) (n ∷ []) in
-    let c : length stack ≡ length (own_nodes (o ∷ os)) = ap length e in
-    ap (option_map as_parent) (g ∙ ap (λ s. slice_get s at) e ∙ slice_get-right (own_nodes os) (n ∷ []) 0 at (omega arith)) ∙ ap Some (own_parent (length (put_down os)) o)
-
-pub second_none : (os : List Opened) (stack : List Node) → stack ≡ own_nodes os → length stack < 2 → first_parent (map parent_of (behind_first os)) ≡ None
-second_none [] stack e h = refl
-second_none (o ∷ []) stack e h = refl
-second_none (o ∷ p ∷ os) stack e h = absurd (omega (arith, ap length e, length-own (o ∷ p ∷ os)))
-
-pub second_given : (os : List Opened) (stack : List Node) (x : Option Node) (at : ℕ) → stack ≡ own_nodes os → at + 2 ≡ length stack → x ≡ slice_get stack at
-    → option_map as_parent x ≡ first_parent (map parent_of (behind_first os))
-second_given [] stack x at e l g = absurd (omega (arith, ap length e))
-second_given (o ∷ []) stack x at e l g = absurd (omega (arith, ap length e))
-second_given (o ∷ p ∷ os) stack x at e l g =
-    let n = own_node (length (put_down (p ∷ os))) o in
-    let m = own_node (length (put_down os)) p in
-    let a : length (own_nodes (p ∷ os)) ≡ length (own_nodes os) + 1 = length-append (own_nodes os) (m ∷ []) in
-    let b : length (own_nodes (o ∷ p ∷ os)) ≡ length (own_nodes (p ∷ os)) + 1 = length-append (own_nodes (p ∷ os)) (n ∷ []) in
-    let c : length stack ≡ length (own_nodes (o ∷ p ∷ os)) = ap length e in
-    ap (option_map as_parent) (g ∙ ap (λ s. slice_get s at) e ∙ slice_get-left (own_nodes (p ∷ os)) (n ∷ []) at (omega arith)
-    ∙ slice_get-right (own_nodes os) (m ∷ []) 0 at (omega arith))
-    ∙ ap Some (own_parent (length (put_down os)) p)
-
-pub last_none : (os : List Opened) (stack : List Node) → stack ≡ own_nodes os → length stack < 1 → first_parent (map parent_of os) ≡ None
-last_none [] stack e h = refl
-last_none (o ∷ os) stack e h = absurd (omega (arith, ap length e, length-own (o ∷ os)))
-
-pub behind_length : (os : List Opened) (stack : List Node) → stack ≡ own_nodes os → length (map parent_of (behind_first os)) ≡ length stack - 1
-behind_length [] stack e = omega (arith, ap length e)
-behind_length (o ∷ os) stack e = let l = length-map os parent_of in omega (arith, ap length e, length-own (o ∷ os), l)
-
-pub all_length : (os : List Opened) (stack : List Node) → stack ≡ own_nodes os → length (map parent_of os) ≡ length stack
-all_length os stack e = let l = length-map os parent_of in omega (arith, ap length e, length-own os, l)
-
-pub first_bare : (os : List Opened) → option_map (λ (p : Parent). p.operator) (first_parent (map parent_of os)) ≡ first_operator os
-first_bare [] = refl
-first_bare (o ∷ os) = refl
-
--- The last of a list, and another in its place.
-pub last_is : (xs below : List Node) (x d : Node) (n : ℕ) → xs ≡ below ++ (x ∷ []) → n ≡ length xs → slice_index_or xs (n - 1) d ≡ x
-last_is xs below x d n e l =
-    let at : n - 1 ≡ length below = let a : length xs ≡ length (below ++ (x ∷ [])) = ap length e in omega (arith, a, l, length-append below (x ∷ [])) in
-    ap (λ i. slice_index_or xs i d) at ∙ ap (λ ys. slice_index_or ys (length below) d) e ∙ get_or-append_seam below x [] d
-
-pub last_set : (xs below : List Node) (x y : Node) (n : ℕ) → xs ≡ below ++ (x ∷ []) → n ≡ length xs → slice_set xs (n - 1) y ≡ below ++ (y ∷ [])
-last_set xs below x y n e l =
-    let at : n - 1 ≡ length below = let a : length xs ≡ length (below ++ (x ∷ [])) = ap length e in omega (arith, a, l, length-append below (x ∷ [])) in
-    ap (λ i. slice_set xs i y) at ∙ ap (λ ys. slice_set ys (length below) y) e ∙ set-append_seam below x [] y
-
--- Two lists with a last element are equal only if their fronts and their last are.
-pub same_last : (xs : List Node) (x : Node) (ys : List Node) (y : Node) → xs ++ (x ∷ []) ≡ ys ++ (y ∷ []) → x ≡ y
-same_last xs x ys y e = sym (last_is (xs ++ (x ∷ [])) xs x x (length (xs ++ (x ∷ []))) refl refl) ∙ last_is (xs ++ (x ∷ [])) ys y x (length (xs ++ (x ∷ []))) e refl
-
-pub same_front : (xs : List Node) (x : Node) (ys : List Node) (y : Node) → xs ++ (x ∷ []) ≡ ys ++ (y ∷ []) → xs ≡ ys
-same_front xs x ys y e = append_cancel_right xs ys (x ∷ []) (e ∙ ap (λ z. ys ++ (z ∷ [])) (sym (same_last xs x ys y e)))

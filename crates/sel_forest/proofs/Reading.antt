@@ -11,7 +11,7 @@ use Rattle.sel_forest.specs.Valid.{depth, Takes, IsAttribute, IsOver}
 use Rattle.sel_forest.specs.Tokens.{Token, Name, Colon, Open, Comma, Close}
 use Rattle.sel_forest.specs.TreeText.{operator_number, SpellsAttribute, SpellsTree, no_kids, one_kid, two_kids}
 use Rattle.sel_forest.specs.LineFaults.{Around, least_of, most_of, least_kids, most_kids, takes_none, wants_some, takes_no_further, wants_another}
-use Rattle.sel_forest.specs.OpenNodes.{Opened, Fresh, Half, Full, opened_operator, kid_count, whole, closed, parent_of, first_operator, bare_in, parents_in}
+use Rattle.sel_forest.specs.OpenNodes.{Opened, Fresh, Half, Full, opened_operator, kid_count, whole, closed, parent_of, first_operator, bare_in, parents_in, total}
 use Rattle.sel_forest.specs.Machine.{open_count}
 use Rattle.sel_forest.specs.declared.line.State.{State}
 use Rattle.sel_forest.specs.declared.line.State.TheVariants.{Start, Wanted, Named, Colonned, Attributed, Closed, Ended}
@@ -100,11 +100,6 @@ Reads g (Colonned d) os ts = Bare g os ts (Colon ∷ []) attribute.Absent
 Reads g (Attributed d) os ts = (xs : List Token) × (x : Attribute) × SpellsAttribute xs x × IsAttribute x × Bare g os ts xs x
 Reads g (Closed d) os ts = Whole g os ts
 Reads g Ended os ts = ⊥
-
--- how many nodes the open nodes are, with what they put down
-abbrev pub total : List Opened → ℕ
-total [] = 0
-total (o ∷ os) = size (whole o) + total os
 
 pub record Fits (g : Grammar) (s : State) (a : Around) (os : List Opened) (ts : List Token) : Type 0 where
   pub reads : Reads g s os ts

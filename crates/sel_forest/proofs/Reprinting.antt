@@ -1,21 +1,30 @@
 -- A printed forest: how it grows tree by tree, and that it spells the forest.
 use Rattle.std.proofs.Common.{◌≡◌, ℕ, suc, ◌+◌, ◌<◌, ◌≤◌, ◌==◌, Bool, true, false, not, ◌&&◌, Some, List, [], ◌∷◌, ◌++◌, refl, ap, sym, ◌∙◌, subst, append_assoc, slice_get, codes, length, take, slice_index_or, add-one}
-use Rattle.std.specs.Prelude.{map, option_map}
+use Rattle.std.specs.Fmt.{signed_decimal}
+use Rattle.std.specs.Prelude.{flat_map, map, option_map}
 use Rattle.std.specs.List.{list_all, onto_first}
 use Rattle.std.proofs.Math.Seq.{take-suc}
 use Rattle.std.proofs.lemmas.Grind.{flat_map-append}
-use Rattle.std.proofs.lemmas.List.{map-append}
+use Rattle.std.proofs.lemmas.List.{flat_map_more, map-append}
 use Rattle.std.proofs.lemmas.List.Splits.{slice_split-cons_yes, slice_split-cons_no}
 use Rattle.std.proofs.lemmas.Option.{slice_get-map, slice_get_read}
+use Rattle.std.proofs.lemmas.Slice.Eq.{bytes_eq-Decides}
+use Rattle.sel_grammar.specs.declared.grammar.Attribute.{Attribute}
 use Rattle.sel_grammar.specs.declared.grammar.Grammar.{Grammar}
-use Rattle.sel_grammar.specs.PlainTrees.{PlainTree, size}
+use Rattle.sel_grammar.specs.PlainTrees.{PlainTree, Node0, Node1, Node2, size}
 use Rattle.sel_forest.specs.declared.forest.Tree.{Tree}
 use Rattle.sel_forest.specs.declared.forest.Forest.{Forest}
 use Rattle.sel_forest.specs.ForestText.{SpellsLine, LinesSpell, no_lines, blank_line, tree_line, lines_of, SpellsForest}
 use Rattle.sel_forest.specs.Postorder.{IsPostorderOf, postorder}
-use Rattle.sel_forest.specs.Printed.{tree_text, forest_text, tree_of, HasNames, IsPrinted}
-use Rattle.sel_forest.specs.Valid.{IsValidTree, IsValidForest, IsOver, depth}
+use Rattle.sel_forest.specs.OpenNodes.{whole}
+use Rattle.sel_forest.specs.Printed.{name_of, operator_name, attribute_text, tree_text, forest_text, tree_of, HasNames, IsPrinted}
+use Rattle.sel_forest.specs.Reprinting.{token_text, HasReprinted}
+use Rattle.sel_forest.specs.Taking.{AreTokensOf}
+use Rattle.sel_forest.specs.Tokens.{Token, Open, Comma, Close}
+use Rattle.sel_forest.specs.TreeText.{operator_number, value_of, SpellsAttribute, no_attribute, a_number, a_symbol, SpellsTree, no_kids, one_kid, two_kids}
+use Rattle.sel_forest.specs.Valid.{IsValidTree, IsValidForest, IsOperatorOf, IsOver, depth}
 use Rattle.sel_forest.specs.Limits.{most_nodes, greatest_depth}
+use Rattle.sel_forest.proofs.Guessing.{stops_at}
 use Rattle.sel_forest.proofs.Roots.{plain_one}
 use Rattle.sel_forest.proofs.PlaceLemmas.{append-none}
 use Rattle.sel_forest.proofs.Rereading.{tree_tokens, tree_spelled, tree_cut, tree_inside}
@@ -36,6 +45,50 @@ printed_next g trees tree t text text' h postorder e = record {
   text_is =
       e ∙ (λ j. h.text_is j ++ append-none (tree_text g t ++ codes "\n") j) ∙ sym (flat_map-append (λ t. tree_text g t ++ codes "\n") h.plain (t ∷ []));
 }
+
+-- The tokens of a tree in print are the tree's text.
+name_is : (g : Grammar) (name : List ℕ) (kids : ℕ) → IsOperatorOf g (operator_number g name) kids → name ≡ operator_name g (operator_number g name)
+name_is g name kids (operator, at, takes) = sym ((bytes_eq-Decides operator.name name).0 (stops_at name g.operators operator at)) ∙ sym (ap name_of at)
+
+attribute_is : (xs : List Token) (a : Attribute) → SpellsAttribute xs a → flat_map token_text xs ≡ attribute_text a
+attribute_is _ _ no_attribute = refl
+attribute_is _ _ (a_number bytes) = ap (λ x. codes ":" ++ x) (sym (append-none (signed_decimal (value_of bytes))))
+attribute_is _ _ (a_symbol bytes) = ap (λ x. codes ":" ++ x) (sym (append-none bytes))
+
+tree_is : (g : Grammar) (ts : List Token) (t : PlainTree) → SpellsTree g ts t → IsOver g t → flat_map token_text ts ≡ tree_text g t
+tree_is g _ _ (no_kids n a xs s) over = λ j. name_is g n 0 over.0 j ++ attribute_is xs a s j
+tree_is g _ _ (one_kid n a xs ts t s h) over =
+    ap (λ x. n ++ x) (flat_map-append token_text xs (Open ∷ (ts ++ (Close ∷ []))) ∙ ap (λ y. flat_map token_text xs ++ (codes "(" ++ y)) (flat_map-append token_text ts (Close ∷ [])))
+    ∙ (λ j. name_is g n 1 over.0 j ++ (attribute_is xs a s j ++ (codes "(" ++ (tree_is g ts t h over.2 j ++ codes ")"))))
+tree_is g _ _ (two_kids n a xs ts us t u s h k) over =
+    ap (λ x. n ++ x) (flat_map-append token_text xs (Open ∷ (ts ++ (Comma ∷ (us ++ (Close ∷ [])))))
+    ∙ ap (λ y. flat_map token_text xs ++ (codes "(" ++ y)) (flat_map-append token_text ts (Comma ∷ (us ++ (Close ∷ [])))
+    ∙ ap (λ z. flat_map token_text ts ++ (codes "," ++ z)) (flat_map-append token_text us (Close ∷ []))))
+    ∙ (λ j. name_is g n 2 over.0 j ++ (attribute_is xs a s j ++ (codes "(" ++ (tree_is g ts t h over.2 j ++ (codes "," ++ (tree_is g us u k over.3 j ++ codes ")"))))))
+
+-- One token more, and a whole line.
+pub reprinted_first : (g : Grammar) (text : List ℕ) → text ≡ [] → HasReprinted g text [] []
+reprinted_first g text e = record { plain = []; trees_are = refl; text_is = e }
+
+pub reprinted_token : (g : Grammar) (text text' : List ℕ) (trees : List Tree) (ts : List Token) (t : Token) → HasReprinted g text trees ts → text' ≡ text ++ token_text t
+    → HasReprinted g text' trees (ts ++ (t ∷ []))
+reprinted_token g text text' trees ts t h e = record {
+  plain = h.plain;
+  trees_are = h.trees_are;
+  text_is = e ∙ ap (λ x. x ++ token_text t) h.text_is ∙ flat_map_more token_text (forest_text g h.plain) ts t;
+}
+
+pub reprinted_printed : (g : Grammar) (text : List ℕ) (trees : List Tree) → HasReprinted g text trees [] → IsPrinted g (record { trees = trees }) text
+reprinted_printed g text trees h = record { plain = h.plain; trees_are = h.trees_are; text_is = h.text_is ∙ sym (append-none (forest_text g h.plain)) }
+
+pub reprinted_line : (g : Grammar) (text text' : List ℕ) (trees : List Tree) (ts : List Token) (tree : Tree) → HasReprinted g text trees ts → AreTokensOf g ts tree
+    → text' ≡ text ++ codes "\n" → HasReprinted g text' (trees ++ (tree ∷ [])) []
+reprinted_line g text text' trees ts tree h tokens e =
+    let before = forest_text g h.plain in
+    let line = tree_is g ts (whole tokens.root) tokens.spells tokens.over in
+    let next = printed_next g trees tree (whole tokens.root) before text' (record { plain = h.plain; trees_are = h.trees_are; text_is = refl }) tokens.postorder
+        (e ∙ (λ j. (h.text_is ∙ ap (λ x. before ++ x) line) j ++ codes "\n") ∙ append_assoc before (tree_text g (whole tokens.root)) (codes "\n")) in
+    record { plain = next.plain; trees_are = next.trees_are; text_is = next.text_is ∙ append-none (forest_text g next.plain) }
 
 -- a tree of a valid forest
 pub tree_at : (g : Grammar) (forest : Forest) (k : ℕ) (tree : Tree) → IsValidForest g forest → k < length forest.trees → tree ≡ slice_index_or forest.trees k tree → IsValidTree g tree

@@ -6,18 +6,16 @@ use Rattle.sel_forest.specs.declared.forest.Forest.{Forest}
 use Rattle.sel_forest.specs.declared.refusal.ForestFault.{ForestFault}
 use Rattle.sel_forest.specs.Limits as limits
 use Rattle.sel_forest.specs.Limits.{most_trees}
-use Rattle.sel_forest.specs.Postorder.{postorder}
-use Rattle.sel_forest.specs.Tokens.{skip, width, start, first}
+use Rattle.sel_forest.specs.Tokens.{Token, skip, width, start, first}
 use Rattle.sel_forest.specs.LineFaults.{around, kind_of, HasFirstFault}
 use Rattle.sel_forest.specs.ForestText.{SpellsLine, IsBlankLine, LinesSpell, no_lines, lines_of, SpellsForest, IsForestFault}
-use Rattle.sel_forest.specs.OpenNodes.{Opened, whole}
 use Rattle.sel_forest.specs.Machine.{step}
 use Rattle.sel_forest.specs.declared.line.State.{State}
 use Rattle.sel_forest.specs.declared.line.State.TheVariants.{Start, Wanted, Named, Colonned, Attributed, Closed, Ended}
 use Rattle.sel_forest.specs.Laws.{SomeForestOrFault}
 use Rattle.sel_forest.proofs.Strides.{shorter, skip_short}
 use Rattle.sel_forest.proofs.Reading.{HasPairsAtMost, most_two}
-use Rattle.sel_forest.proofs.Standing.{opened, Stands, stands_start, token_here, stands_stray, stands_wrong, stands_next, stands_end, LineEnds}
+use Rattle.sel_forest.proofs.Standing.{Stands, stands_start, token_here, stands_stray, stands_wrong, stands_next, stands_end, LineEnds}
 use Rattle.sel_forest.proofs.ForestLoop.{more_blank, more_tree}
 
 -- A line is blank, spells a tree, or has a fault.
@@ -33,9 +31,9 @@ is_ended (Attributed d) = inr (λ e. cc)
 is_ended (Closed d) = inr (λ e. cc)
 is_ended Ended = inl refl
 
-end_answer : (g : Grammar) (trees : ℕ) (line : List ℕ) (os : List Opened) → LineEnds g trees line os → LineAnswer g trees line
-end_answer g trees line os (inl e) = inl e.1
-end_answer g trees line os (inr e) = inr (inl (record { nodes = postorder 0 (whole e.0) }, e.2 (record { nodes = postorder 0 (whole e.0) }) refl, e.3))
+end_answer : (g : Grammar) (trees : ℕ) (line : List ℕ) (ts : List Token) → LineEnds g trees line ts → LineAnswer g trees line
+end_answer g trees line ts (inl e) = inl e.1
+end_answer g trees line ts (inr e) = inr (inl (e.0, e.2, e.3))
 
 decide : (g : Grammar) → HasPairsAtMost g → (trees : ℕ) (line : List ℕ) (fuel n : ℕ) (s : State) (rest : List ℕ) → length rest < fuel → Stands g trees line n s rest → LineAnswer g trees line
 decide g two trees line zero n s rest lt r = absurd (omega arith)
@@ -46,7 +44,7 @@ decide g two trees line (suc fuel) n s rest lt r =
   where
     by_end : (u : State) → (u ≡ Ended) ⊎ (u ≡ Ended → ⊥) → step s (token_here s rest) ≡ Some u → kind_of g trees (around g (first n (start line))) (token_here s rest) ≡ None
         → ((u : State) → step s (token_here s rest) ≡ Some u → kind_of g trees (around g (first n (start line))) (token_here s rest) ≡ None → (u ≡ Ended → ⊥) → LineAnswer g trees line) → LineAnswer g trees line
-    by_end u (inl e) h k again = end_answer g trees line (opened g (first n (start line))) (stands_end g two trees line n s rest r (h ∙ ap Some e) k)
+    by_end u (inl e) h k again = end_answer g trees line (first n (start line)) (stands_end g two trees line n s rest r (h ∙ ap Some e) k)
     by_end u (inr open_still) h k again = again u h k open_still
 
     by_kind : (o : Option ℕ) → kind_of g trees (around g (first n (start line))) (token_here s rest) ≡ o → (u : State) → step s (token_here s rest) ≡ Some u

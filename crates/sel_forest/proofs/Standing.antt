@@ -10,7 +10,8 @@ use Rattle.sel_forest.specs.Tokens.{Token, Name, Number, Symbol, Colon, Open, Co
 use Rattle.sel_forest.specs.Form.{IsLine}
 use Rattle.sel_forest.specs.LineFaults.{Around, around_next, around_from, around, kind_of, HasFault, stray, wrong, HasFirstFault}
 use Rattle.sel_forest.specs.ForestText.{SpellsLine, IsBlankLine}
-use Rattle.sel_forest.specs.OpenNodes.{Opened, whole, opened_next, TakesToken}
+use Rattle.sel_forest.specs.Taking.{AreTokensOf}
+use Rattle.sel_forest.specs.OpenNodes.{Opened, whole, opened_next, opened_from, opened, total, TakesToken}
 use Rattle.sel_forest.specs.Machine.{after_tree, step, run, go, wants_attribute, open_count}
 use Rattle.sel_forest.specs.declared.line.State.{State}
 use Rattle.sel_forest.specs.declared.line.State.TheVariants.{Start, Wanted, Named, Colonned, Attributed, Closed, Ended}
@@ -18,18 +19,10 @@ use Rattle.sel_forest.proofs.Viable.{run-append, complete, goes_on, stops}
 use Rattle.sel_forest.proofs.Strides.{first-snoc, after-snoc, step_depth, step_flag, shorter, skip_short}
 use Rattle.sel_forest.proofs.Lawful.{lawful}
 use Rattle.sel_forest.proofs.Roots.{size_some}
-use Rattle.sel_forest.proofs.Reading.{HasPairsAtMost, total, Fits, not_le}
+use Rattle.sel_forest.proofs.Reading.{HasPairsAtMost, Fits, not_le}
 use Rattle.sel_forest.proofs.Stepping.{Moves, MovesTo, moves, name_right}
 
-abbrev pub opened_from : Grammar → List Opened → List Token → List Opened
-opened_from g os [] = os
-opened_from g os (t ∷ ts) = opened_from g (opened_next g os t) ts
-
--- the open nodes behind a line's first tokens
-abbrev pub opened : Grammar → List Token → List Opened
-opened g ts = opened_from g [] ts
-
-opened-snoc : (g : Grammar) (os : List Opened) (ts : List Token) (t : Token) → opened_from g os (ts ++ (t ∷ [])) ≡ opened_next g (opened_from g os ts) t
+pub opened-snoc : (g : Grammar) (os : List Opened) (ts : List Token) (t : Token) → opened_from g os (ts ++ (t ∷ [])) ≡ opened_next g (opened_from g os ts) t
 opened-snoc g os [] t = refl
 opened-snoc g os (u ∷ ts) t = opened-snoc g (opened_next g os u) ts t
 
@@ -89,7 +82,7 @@ module _ (g : Grammar) (two : HasPairsAtMost g) (trees : ℕ) (line : List ℕ) 
   here : token_at (after n (start line)) ≡ token_here s rest
   here = ap token_at r.spot
 
-  one_more : first (suc n) (start line) ≡ first n (start line) ++ (token_here s rest ∷ [])
+  pub one_more : first (suc n) (start line) ≡ first n (start line) ++ (token_here s rest ∷ [])
   one_more = first-snoc n (start line) ∙ ap (λ t. first n (start line) ++ (t ∷ [])) here
 
   run_more : (o : Option State) → step s (token_here s rest) ≡ o → run (first (suc n) (start line)) Start ≡ o
@@ -145,7 +138,7 @@ module _ (g : Grammar) (two : HasPairsAtMost g) (trees : ℕ) (line : List ℕ) 
   pub opened_more : opened g (first (suc n) (start line)) ≡ opened_next g (opened g (first n (start line))) (token_here s rest)
   opened_more = ap (opened g) one_more ∙ opened-snoc g [] (first n (start line)) (token_here s rest)
 
-  around_more : around g (first (suc n) (start line)) ≡ around_next g (around g (first n (start line))) (token_here s rest)
+  pub around_more : around g (first (suc n) (start line)) ≡ around_next g (around g (first n (start line))) (token_here s rest)
   around_more = ap (around g) one_more ∙ around-snoc g (record { names = 0; bare = None; parents = [] }) (first n (start line)) (token_here s rest)
 
   below_suc : (k : ℕ) → k < suc n → (k < n) ⊎ (k ≡ n)
@@ -196,30 +189,34 @@ step_ended (Attributed d) t h = after_ended d t h
 step_ended (Closed d) t h = after_ended d t h
 step_ended _ _ h = cc
 
--- the line is blank and nothing is open, or the root alone is open and its tree is the line's
-abbrev pub LineEnds : Grammar → ℕ → List ℕ → List Opened → Type 0
-LineEnds g trees line os =
-    ((os ≡ []) × IsBlankLine line)
-    ⊎ ((root : Opened) × (os ≡ root ∷ []) × ((tree : Tree) → tree.nodes ≡ postorder 0 (whole root) → SpellsLine g line tree) × (trees < most_trees))
+-- The line is blank, or its tokens are those of a tree. No tree stands behind the last one that may.
+abbrev pub LineEnds : Grammar → ℕ → List ℕ → List Token → Type 0
+LineEnds g trees line ts =
+    ((ts ≡ []) × IsBlankLine line × (total (opened g ts) ≡ 0))
+    ⊎ ((tree : Tree) × AreTokensOf g ts tree × SpellsLine g line tree × (trees < most_trees) × (0 < total (opened g ts)))
 
 pub stands_end : (g : Grammar) (two : HasPairsAtMost g) (trees : ℕ) (line : List ℕ) (n : ℕ) (s : State) (rest : List ℕ) (r : Stands g trees line n s rest)
-    → step s (token_here s rest) ≡ Some Ended → kind_of g trees (around g (first n (start line))) (token_here s rest) ≡ None → LineEnds g trees line (opened g (first n (start line)))
+    → step s (token_here s rest) ≡ Some Ended → kind_of g trees (around g (first n (start line))) (token_here s rest) ≡ None → LineEnds g trees line (first n (start line))
 stands_end g two trees line n s rest r h k =
     let ts = first n (start line) in
     let f : Fits g s (around g ts) (opened g ts) ts = r.fits in
     let last : first (suc n) (start line) ≡ ts ++ (End ∷ []) = one_more g two trees line n s rest r ∙ ap (λ t. ts ++ (t ∷ [])) (step_ended s (token_here s rest) h) in
     let cut : IsCutInto line ts = ap (λ m. first (suc m) (start line)) (length-first n line) ∙ last in
     elim ((moved g two trees line n s rest r Ended h k).ends refl) [
-      | inl e ↦ inl (e.0, subst (IsCutInto line) e.1 cut)
-      | inr e ↦ inr (
-        e.0,
-        e.1,
-        λ tree p. record {
-          tokens = ts;
-          cut = cut;
-          valid = record { plain = whole e.0; postorder = p; over = e.3; small = let q : total (opened g ts) ≡ size (whole e.0) + 0 = ap total e.1 in omega (arith, f.few, f.names, q); shallow = e.4 };
-          spells = e.2;
-        },
-        let q : total (opened g ts) ≡ size (whole e.0) + 0 = ap total e.1 in r.few (omega (arith, f.names, q, size_some (whole e.0))),
-      )
+      | inl e ↦ inl (e.1, subst (IsCutInto line) e.1 cut, ap total e.0)
+      | inr e ↦
+        let tree : Tree = record { nodes = postorder 0 (whole e.0) } in
+        let q : total (opened g ts) ≡ size (whole e.0) + 0 = ap total e.1 in
+        inr (
+          tree,
+          record { root = e.0; opened_is = e.1; spells = e.2; over = e.3; postorder = refl },
+          record {
+            tokens = ts;
+            cut = cut;
+            valid = record { plain = whole e.0; postorder = refl; over = e.3; small = omega (arith, f.few, f.names, q); shallow = e.4 };
+            spells = e.2;
+          },
+          r.few (omega (arith, f.names, q, size_some (whole e.0))),
+          omega (arith, q, size_some (whole e.0)),
+        )
     ]

@@ -13,13 +13,13 @@ use Rattle.sel_forest.specs.Valid.{depth, IsAttribute, IsOver}
 use Rattle.sel_forest.specs.Tokens.{Token, Name, Number, Symbol, Colon, Open, Comma, Close, End}
 use Rattle.sel_forest.specs.TreeText.{operator_number, SpellsAttribute, no_attribute, a_number, a_symbol, SpellsTree, value_of, is_negative, without_sign}
 use Rattle.sel_forest.specs.LineFaults.{Around, around_next, wants_some, takes_no_further, wants_another, has_wrong_arity, is_too_large, name_kind, unknown_kind, kind_of, with_parent, with_whole_kid, without_first}
-use Rattle.sel_forest.specs.declared.faults.Parent.{Parent}
-use Rattle.sel_forest.specs.OpenNodes.{Opened, Fresh, Half, Full, opened_operator, whole, closed, with_attribute, opened_next, parent_of, first_operator, behind_first, IsClosable, TakesToken}
+use Rattle.sel_forest.specs.declared.around.Parent.{Parent}
+use Rattle.sel_forest.specs.OpenNodes.{Opened, Fresh, Half, Full, opened_operator, whole, closed, with_attribute, opened_next, parent_of, first_operator, behind_first, IsClosable, TakesToken, total}
 use Rattle.sel_forest.specs.Pieces.{IsLawful}
 use Rattle.sel_forest.specs.Machine.{after_tree, step}
 use Rattle.sel_forest.specs.declared.line.State.{State}
 use Rattle.sel_forest.specs.declared.line.State.TheVariants.{Start, Wanted, Named, Colonned, Attributed, Closed, Ended}
-use Rattle.sel_forest.proofs.Reading.{HasPairsAtMost, not_le, not_lt, right, left_false, right_false, ParentTexts, Bare, Whole, total, Fits, whole_of_bare, open_texts, comma_texts, close_texts}
+use Rattle.sel_forest.proofs.Reading.{HasPairsAtMost, not_le, not_lt, right, left_false, right_false, ParentTexts, Bare, Whole, Fits, whole_of_bare, open_texts, comma_texts, close_texts}
 
 -- What the checks of a name say.
 pub record NameIsRight (g : Grammar) (trees : ℕ) (a : Around) (n : List ℕ) : Type 0 where

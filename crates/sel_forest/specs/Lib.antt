@@ -11,11 +11,13 @@ pub mod LineFaults
 pub mod Guesses
 pub mod ForestText
 pub mod OpenNodes
-pub mod Surroundings
+pub mod Building
+pub mod Taking
 pub mod Places
 pub mod Covers
 pub mod Goals
 pub mod Printed
 pub mod Printing
 pub mod Reprinted
+pub mod Reprinting
 pub mod Laws

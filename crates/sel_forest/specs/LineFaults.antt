@@ -3,7 +3,7 @@ use Rattle.std.specs.Prelude.{◌≡◌, ℕ, suc, ◌+◌, ◌^◌, ◌<◌, �
 use Rattle.std.specs.Str.Parse.{digits_value}
 use Rattle.sel_grammar.specs.declared.grammar.Grammar.{Grammar}
 use Rattle.sel_grammar.specs.declared.grammar.Operator.{Operator}
-use Rattle.sel_forest.specs.declared.faults.Parent.{Parent}
+use Rattle.sel_forest.specs.declared.around.Parent.{Parent}
 use Rattle.sel_forest.specs.Limits as limits
 use Rattle.sel_forest.specs.Limits.{most_trees, most_nodes, greatest_depth}
 use Rattle.sel_forest.specs.Tokens.{Token, Name, Number, Open, Comma, Close, End, first, after, start, token_at, place}
@@ -40,9 +40,13 @@ abbrev pub around_from : Grammar → Around → List Token → Around
 around_from g a [] = a
 around_from g a (t ∷ ts) = around_from g (around_next g a t) ts
 
+-- what surrounds the start of a line
+abbrev pub at_start : Around
+at_start = record { names = 0; bare = None; parents = [] }
+
 -- what surrounds the place behind a line's first tokens
 abbrev pub around : Grammar → List Token → Around
-around g ts = around_from g (record { names = 0; bare = None; parents = [] }) ts
+around g ts = around_from g at_start ts
 
 -- the least number of kids: the arity, or 0 where that is open
 abbrev pub least_of : Option Operator → ℕ

@@ -7,7 +7,7 @@ use Rattle.sel_grammar.specs.PlainTrees.{PlainTree, Node0, Node1, Node2, size}
 use Rattle.sel_forest.specs.declared.forest.Node.{Node}
 use Rattle.sel_forest.specs.declared.line.State.{State}
 use Rattle.sel_forest.specs.declared.line.State.TheVariants.{Named, Colonned, Attributed, Closed}
-use Rattle.sel_forest.specs.declared.faults.Parent.{Parent}
+use Rattle.sel_forest.specs.declared.around.Parent.{Parent}
 use Rattle.sel_forest.specs.Postorder.{postorder}
 use Rattle.sel_forest.specs.Tokens.{Token, Name, Number, Symbol, Comma, Close}
 use Rattle.sel_forest.specs.TreeText.{operator_number, value_of}
@@ -87,6 +87,19 @@ opened_next g os (Symbol bytes) = with_attribute (attribute.Symbol bytes) os
 opened_next g os Comma = closed os
 opened_next g os Close = closed os
 opened_next g os _ = os
+
+abbrev pub opened_from : Grammar → List Opened → List Token → List Opened
+opened_from g os [] = os
+opened_from g os (t ∷ ts) = opened_from g (opened_next g os t) ts
+
+-- the open nodes behind a line's first tokens
+abbrev pub opened : Grammar → List Token → List Opened
+opened g ts = opened_from g [] ts
+
+-- how many nodes the open nodes are, with what they put down
+abbrev pub total : List Opened → ℕ
+total [] = 0
+total (o ∷ os) = size (whole o) + total os
 
 -- there is a node around the innermost one, and it takes a kid
 abbrev pub IsClosable : List Opened → Type 0

@@ -1,15 +1,22 @@
 //! Trees in postorder, built over a stack of open nodes.
 
-ghost use Rattle.std.specs.Prelude.{◌≡◌, ℕ, List, [], ◌∷◌, ◌++◌, ◌<◌, ◌≤◌, ◌+◌, ◌^◌, length, Some, None, OnOk, IfOk};
+ghost use Rattle.std.specs.Prelude.{◌≡◌, ℕ, List, [], ◌∷◌, ◌++◌, ◌<◌, ◌≤◌, ◌^◌, length, OnOk, IfOk};
+ghost use Rattle.sel_grammar.specs.declared.grammar.Grammar.{Grammar as AnyGrammar};
+ghost use Rattle.sel_forest.specs.declared.forest.Node.{Node as AnyNode};
+ghost use Rattle.sel_forest.specs.declared.forest.Tree.{Tree as AnyTree};
+ghost use Rattle.sel_forest.specs.Building.{HasBuilt};
 ghost use Rattle.sel_forest.specs.OpenNodes.{attached, Opened, opened_next, Holds, TakesToken};
 ghost use Rattle.sel_forest.specs.Pieces.{view, IsLawful, IsNamedBy};
 
 use crate::forest::{Node, Tree};
+use crate::limits::MOST_NODES;
 use crate::number::number;
+use crate::taker::Taker;
 use crate::tokens::Piece;
 use sel_base::{List, NoMemory};
-use sel_grammar::{Attribute, Grammar};
+use sel_grammar::Attribute;
 use std::alloc::Global;
+use std::mem;
 
 fn attach(node: &mut Node, at: u32)
     ensures { node.new ≡ attached node.old at }
@@ -50,7 +57,7 @@ fn set_attribute(stack: &mut Vec<Node>, attribute: Attribute)
 }
 
 /// What a token does to the open nodes. The operator is that which the token names.
-pub fn take(
+fn take(
     alloc: Global,
     stack: &mut Vec<Node>,
     nodes: &mut Vec<Node>,
@@ -59,7 +66,7 @@ pub fn take(
 ) -> Result<(), NoMemory>
     requires room { length nodes.old.items < 2 ^ 32 }
     requires lawful { IsLawful (view piece.now) }
-    ensures { (g : Grammar) (os : List Opened) → IsNamedBy g operator (view piece.now) → Holds os stack.old.items nodes.old.items → TakesToken os (view piece.now)
+    ensures { (g : AnyGrammar) (os : List Opened) → IsNamedBy g operator (view piece.now) → Holds os stack.old.items nodes.old.items → TakesToken os (view piece.now)
         → IfOk result (λ _. Holds (opened_next g os (view piece.now)) stack.new.items nodes.new.items) }
 {
     match piece {
@@ -92,20 +99,88 @@ pub fn take(
     }
 }
 
-/// The root ends with the line: the nodes are its tree, where there is one.
-pub fn finish(stack: &mut Vec<Node>, nodes: Vec<Node>) -> Result<Option<Tree>, NoMemory>
-    ensures blank { stack.old.items ≡ [] → IfOk result (λ o. o ≡ None) }
-    ensures tree { (root : Node) → stack.old.items ≡ root ∷ [] → IfOk result (λ o. o ≡ Some (record { nodes = nodes.items ++ (root ∷ []) })) }
-    ensures emptied { length stack.old.items ≤ 1 → stack.new.items ≡ [] }
+/// How many parentheses open and how many commas stand on the line.
+fn kids_within(line: &[u8]) -> usize
+    ensures { result ≤ length line.now }
 {
-    let mut nodes = nodes;
-    match stack.pop() {
-        None => Ok(None),
-        Some(root) => {
-            nodes.push(root)?;
-            Ok(Some(Tree {
-                nodes: List::from_vec(nodes),
-            }))
+    let mut count: usize = 0;
+    'bytes: for b in line {
+        count += (*b == b'(' || *b == b',') as usize;
+    }
+    count
+}
+
+/// Room for the nodes of the line's tree: the root, and a node behind each parenthesis and comma.
+fn room(alloc: Global, line: &[u8]) -> Result<Vec<Node>, NoMemory>
+    ensures { IfOk result (λ nodes. nodes.items ≡ []) }
+{
+    let nodes = Vec::with_capacity(alloc, kids_within(line).min(MOST_NODES - 1) + 1)?;
+    Ok(nodes)
+}
+
+/// Builds the trees of a text. The stack has the open nodes of a line, and the nodes are those that
+/// are whole.
+#[derive(Drop)]
+pub struct TreeBuilder {
+    alloc: Global,
+    trees: List<Tree>,
+    stack: Vec<Node>,
+    nodes: Vec<Node>,
+}
+
+impl TreeBuilder {
+    pub fn new(alloc: Global) -> TreeBuilder
+        ensures { (g : AnyGrammar) → HasBuilt g result [] [] }
+    {
+        TreeBuilder {
+            alloc,
+            trees: List::new(alloc),
+            stack: Vec::new(alloc),
+            nodes: Vec::new(alloc),
         }
+    }
+
+    /// The trees that were built.
+    pub fn into_trees(self) -> List<Tree>
+        ensures { (g : AnyGrammar) (trees : List AnyTree) → HasBuilt g self trees [] → result ≡ trees }
+    {
+        self.trees
+    }
+
+    /// The root ends with its line: the nodes and it are the tree.
+    fn finish(&mut self) -> Result<(), NoMemory>
+        ensures { (root : AnyNode) → self.old.stack.items ≡ root ∷ [] → OnOk result ((self.new.stack.items ≡ []) × (self.new.nodes.items ≡ [])
+            × (self.new.trees ≡ self.old.trees ++ record { nodes = self.old.nodes.items ++ (root ∷ []) } ∷ [])) }
+    {
+        if let Some(root) = self.stack.pop() {
+            self.nodes.push(root)?;
+            let nodes = mem::replace(&mut self.nodes, Vec::new(self.alloc));
+            self.trees.push(Tree {
+                nodes: List::from_vec(nodes),
+            })?;
+        }
+        Ok(())
+    }
+}
+
+impl Taker for TreeBuilder {
+    ghost took = { λ builder g trees ts. HasBuilt g builder trees ts };
+
+    // The nodes get the room that they take, and no more.
+    fn begin(&mut self, line: &[u8]) -> Result<(), NoMemory> {
+        self.nodes = room(self.alloc, line)?;
+        Ok(())
+    }
+
+    fn take(&mut self, operator: u8, piece: &Piece<'_>) -> Result<(), NoMemory> {
+        take(
+            self.alloc, &mut self.stack, &mut self.nodes, operator, piece,
+        )?;
+        Ok(())
+    }
+
+    fn end(&mut self) -> Result<(), NoMemory> {
+        self.finish()?;
+        Ok(())
     }
 }

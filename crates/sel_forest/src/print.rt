@@ -1,21 +1,17 @@
 //! Forests printed as text.
 
-ghost use Rattle.std.specs.Prelude.{◌≡◌, ◌++◌, ◌∷◌, ◌<◌, [], List, length, IfOk, IfErr, OnOk};
+ghost use Rattle.std.specs.Prelude.{◌≡◌, ◌++◌, ◌∷◌, [], List, IfOk, OnOk};
+ghost use Rattle.std.specs.Fmt.{signed_decimal};
 ghost use Rattle.sel_grammar.specs.PlainTrees.{PlainTree};
-ghost use Rattle.sel_grammar.specs.Limits.{IsWithinLimits};
 ghost use Rattle.sel_grammar.specs.declared.grammar.Grammar.{Grammar as AnyGrammar};
 ghost use Rattle.sel_forest.specs.declared.forest.Tree.{Tree as AnyTree};
-ghost use Rattle.sel_forest.specs.ForestText.{SpellsForest, IsForestRefusal};
+ghost use Rattle.sel_forest.specs.ForestText.{SpellsForest};
 ghost use Rattle.sel_forest.specs.Postorder.{IsPostorderOf, IsTree};
 ghost use Rattle.sel_forest.specs.Printed.{attribute_text, tree_text, operator_name, HasNames, IsPrinted};
 ghost use Rattle.sel_forest.specs.Printing.{opening, node_tasks, head_text, task_text, task_below, HasPrinted};
-ghost use Rattle.sel_forest.specs.Reprinted.{IsReprinted};
 ghost use Rattle.sel_forest.specs.Valid.{IsValidForest};
 
 use crate::forest::{Forest, Node, Tree};
-use crate::read::read_trees;
-use crate::refusal::ForestRefusal;
-use crate::taker::Taker;
 use crate::walk::node_at;
 use itoa::Buffer;
 use sel_base::{List, NoMemory};
@@ -30,11 +26,20 @@ pub enum Task {
     Close,
 }
 
-fn put(text: &mut Vec<u8>, bytes: &[u8]) -> Result<(), NoMemory>
+/// Puts the bytes behind the text.
+pub fn put(text: &mut Vec<u8>, bytes: &[u8]) -> Result<(), NoMemory>
     ensures { OnOk result (text.new.items ≡ text.old.items ++ bytes.now) }
 {
     text.extend_from_slice(bytes)?;
     Ok(())
+}
+
+/// Puts the number behind the text, in decimal.
+pub fn put_number(text: &mut Vec<u8>, number: i64) -> Result<(), NoMemory>
+    ensures { OnOk result (text.new.items ≡ text.old.items ++ signed_decimal number) }
+{
+    let mut buffer = Buffer::new();
+    put(text, buffer.format(number).as_bytes())
 }
 
 fn put_name(grammar: &Grammar, operator: u8, text: &mut Vec<u8>) -> Result<(), NoMemory>
@@ -52,9 +57,8 @@ fn put_attribute(attribute: &Attribute, text: &mut Vec<u8>) -> Result<(), NoMemo
     match attribute {
         Attribute::Absent => {}
         Attribute::Number(number) => {
-            let mut buffer = Buffer::new();
             put(text, b":")?;
-            put(text, buffer.format(*number).as_bytes())?;
+            put_number(text, *number)?;
         }
         Attribute::Symbol(symbol) => {
             put(text, b":")?;
@@ -179,14 +183,6 @@ impl Printer {
     }
 }
 
-impl Taker for Printer {
-    ghost took = { λ printer g trees. HasPrinted g printer trees };
-
-    fn take(&mut self, grammar: &Grammar, tree: Tree) -> Result<(), NoMemory> {
-        self.print(grammar, &tree)
-    }
-}
-
 /// The forest's text: each tree on a line without blanks, and behind each line a line feed. Numbers
 /// are in decimal, with no leading zeros.
 pub fn print_forest(alloc: Global, grammar: &Grammar, forest: &Forest) -> Result<List<u8>, NoMemory>
@@ -198,23 +194,5 @@ pub fn print_forest(alloc: Global, grammar: &Grammar, forest: &Forest) -> Result
     'trees: for tree in forest.trees.as_slice() {
         printer.print(grammar, tree)?;
     }
-    Ok(printer.into_text())
-}
-
-/// The forest that the text spells under the grammar, in print: what `print_forest` makes of what
-/// `read_forest` gives. Each tree is printed when it is read, so that only one is held at a time.
-pub fn reprint_forest(
-    alloc: Global,
-    grammar: &Grammar,
-    bytes: &[u8],
-) -> Result<List<u8>, ForestRefusal>
-    requires within { IsWithinLimits grammar.now }
-    requires short { length bytes.now < 4294967295 }
-    ensures ok { IfOk result (λ text. IsReprinted grammar.now bytes.now text) }
-    ensures again { HasNames grammar.now → IfOk result (λ text. IsReprinted grammar.now text text) }
-    ensures fault { IfErr result (λ refusal. IsForestRefusal grammar.now bytes.now refusal) }
-{
-    let mut printer = Printer::new(alloc);
-    read_trees(alloc, grammar, bytes, &mut printer)?;
     Ok(printer.into_text())
 }

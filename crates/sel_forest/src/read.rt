@@ -1,26 +1,26 @@
 //! Forests read from text.
 
-ghost use Rattle.std.specs.Prelude.{◌≡◌, ℕ, List, [], ◌∷◌, ◌++◌, ◌<◌, ◌≤◌, ◌+◌, ◌-◌, ◌^◌, length, None, Some, IfOk, IfErr, OnOk, IfSome, OnSome, not, ◌==◌, option_to_list, drop};
+ghost use Rattle.std.specs.Prelude.{◌≡◌, ℕ, List, Option, [], ◌∷◌, ◌++◌, ◌<◌, ◌≤◌, ◌+◌, ◌-◌, ◌^◌, length, IfOk, IfErr, OnOk, IfSome, OnSome, not, ◌==◌, option_to_list, drop};
 ghost use Rattle.std.specs.List.{prefix_len};
 ghost use Rattle.sel_grammar.specs.Limits.{IsWithinLimits};
 ghost use Rattle.sel_forest.specs.ForestText.{lines_of, SpellsForest, IsForestRefusal, IsLineResult, IsLineRefusal};
 ghost use Rattle.sel_forest.specs.Guesses.{AreGuesses};
 ghost use Rattle.sel_forest.specs.Limits.{most_trees};
 ghost use Rattle.sel_forest.specs.Pieces.{lines_behind};
-ghost use Rattle.sel_forest.specs.Valid.{IsValidForest, IsValidTree};
+ghost use Rattle.sel_forest.specs.Valid.{IsValidForest};
 ghost use Rattle.sel_forest.specs.declared.forest.Tree.{Tree as AnyTree};
 
-use crate::build::{finish, take};
+use crate::around::Around;
+use crate::build::TreeBuilder;
 use crate::faults::kind_of;
-use crate::forest::{Forest, Node, Tree};
+use crate::forest::Forest;
 use crate::guess::{guesses_of, operator_named};
-use crate::limits::{MOST_NODES, TOKEN};
+use crate::limits::TOKEN;
 use crate::line::{State, step, wants_attribute};
 use crate::refusal::{ForestFault, ForestRefusal};
 use crate::taker::Taker;
 use crate::tokens::next_token;
 use memchr::memchr;
-use sel_base::{List, NoMemory};
 use sel_grammar::Grammar;
 use std::alloc::Global;
 
@@ -81,45 +81,27 @@ fn fault(kind: u8, number: u32, line: &[u8], from: &[u8]) -> ForestRefusal
     })
 }
 
-/// How many parentheses open and how many commas stand on the line.
-fn kids_within(line: &[u8]) -> usize
-    ensures { result ≤ length line.now }
-{
-    let mut count: usize = 0;
-    'bytes: for b in line {
-        count += (*b == b'(' || *b == b',') as usize;
-    }
-    count
-}
-
-/// Room for the nodes of the line's tree: the root, and a node behind each parenthesis and comma.
-fn room(alloc: Global, line: &[u8]) -> Result<Vec<Node>, NoMemory>
-    ensures { IfOk result (λ nodes. nodes.items ≡ []) }
-{
-    let nodes = Vec::with_capacity(alloc, kids_within(line).min(MOST_NODES - 1) + 1)?;
-    Ok(nodes)
-}
-
-/// The tree of a line, or none where the line is blank. The stack is empty before and behind it.
-fn read_line(
-    alloc: Global,
+/// Reads a line, and hands its tokens on, up to the first with a fault. The answer is how many trees
+/// there are then.
+fn read_line<T: Taker>(
     grammar: &Grammar,
     guesses: &[u8],
     trees: usize,
     number: u32,
     line: &[u8],
-    stack: &mut Vec<Node>,
-) -> Result<Option<Tree>, ForestRefusal>
+    around: &mut Around,
+    taker: &mut T,
+) -> Result<usize, ForestRefusal>
     requires within { IsWithinLimits grammar.now }
     requires guesses { AreGuesses grammar.now guesses.now }
     requires short { length line.now + 1 < 2 ^ 32 }
-    requires empty { stack.old.items ≡ [] }
-    ensures line { IfOk result (λ tree. IsLineResult grammar.now line.now tree) }
-    ensures few { IfOk result (λ tree. OnSome tree (trees < most_trees)) }
-    ensures emptied { OnOk result (stack.new.items ≡ []) }
+    requires so_far { (taken : List AnyTree) × T.took taker.old grammar.now taken [] }
+    ensures line { (taken : List AnyTree) → T.took taker.old grammar.now taken [] → IfOk result (λ count. (tree : Option AnyTree) × IsLineResult grammar.now line.now tree
+        × OnSome tree (trees < most_trees) × (count ≡ trees + length (option_to_list tree)) × T.took taker.new grammar.now (taken ++ option_to_list tree) []) }
     ensures refusal { IfErr result (λ refusal. IsLineRefusal grammar.now trees line.now number refusal) }
 {
-    let mut nodes = room(alloc, line)?;
+    taker.begin(line)?;
+    around.restart();
     let mut state = State::Start;
     let mut rest = line;
     'tokens: loop {
@@ -128,51 +110,24 @@ fn read_line(
             return Err(fault(TOKEN, number, line, found.from));
         };
         let operator = operator_named(grammar, guesses, &found.piece);
-        if let Some(kind) = kind_of(
-            grammar,
-            trees,
-            state,
-            stack,
-            nodes.len(),
-            operator,
-            &found.piece,
-        ) {
+        if let Some(kind) = kind_of(grammar, trees, around, operator, &found.piece) {
             return Err(fault(kind, number, line, found.from));
         }
         if let State::Ended = next {
-            let tree = finish(stack, nodes)?;
-            return Ok(tree);
+            if around.names() == 0 {
+                return Ok(trees);
+            }
+            taker.end()?;
+            return Ok(trees + 1);
         }
-        take(alloc, stack, &mut nodes, operator as u8, &found.piece)?;
+        taker.take(operator as u8, &found.piece)?;
+        around.follow(operator as u8, &found.piece)?;
         state = next;
         rest = found.behind;
     }
 }
 
-/// Hands a line's tree on, where it has one, and counts it.
-fn hand_on<T: Taker>(
-    taker: &mut T,
-    grammar: &Grammar,
-    tree: Option<Tree>,
-    trees: usize,
-) -> Result<usize, NoMemory>
-    requires so_far { (taken : List AnyTree) × T.took taker.old grammar.now taken }
-    requires valid { IfSome tree (λ tree. IsValidTree grammar.now tree) }
-    requires few { OnSome tree (trees < most_trees) }
-    ensures took { (taken : List AnyTree) → T.took taker.old grammar.now taken → OnOk result (T.took taker.new grammar.now (taken ++ option_to_list tree)) }
-    ensures count { IfOk result (λ count. count ≡ trees + length (option_to_list tree)) }
-{
-    match tree {
-        None => Ok(trees),
-        Some(tree) => {
-            taker.take(grammar, tree)?;
-            Ok(trees + 1)
-        }
-    }
-}
-
-/// Hands on the trees that the text spells under the grammar, in their order. A tree is handed on
-/// before the next line is read.
+/// Hands on the tokens of the trees that the text spells under the grammar, in their order.
 pub fn read_trees<T: Taker>(
     alloc: Global,
     grammar: &Grammar,
@@ -181,21 +136,20 @@ pub fn read_trees<T: Taker>(
 ) -> Result<(), ForestRefusal>
     requires within { IsWithinLimits grammar.now }
     requires short { length bytes.now < 4294967295 }
-    requires none { T.took taker.old grammar.now [] }
-    ensures ok { OnOk result ((trees : List AnyTree) × SpellsForest grammar.now bytes.now (record { trees = trees }) × T.took taker.new grammar.now trees) }
+    requires none { T.took taker.old grammar.now [] [] }
+    ensures ok { OnOk result ((trees : List AnyTree) × SpellsForest grammar.now bytes.now (record { trees = trees }) × T.took taker.new grammar.now trees []) }
     ensures fault { IfErr result (λ refusal. IsForestRefusal grammar.now bytes.now refusal) }
 {
     let guesses = guesses_of(alloc, grammar)?;
-    let mut stack = Vec::new(alloc);
+    let mut around = Around::new(alloc);
     let mut trees = 0;
     let mut number = 1;
     let mut rest = bytes;
     'lines: loop {
         let cut = first_line(rest);
-        let tree = read_line(
-            alloc, grammar, &guesses, trees, number, cut.line, &mut stack,
+        trees = read_line(
+            grammar, &guesses, trees, number, cut.line, &mut around, taker,
         )?;
-        trees = hand_on(taker, grammar, tree, trees)?;
         let Some(behind) = cut.rest else {
             return Ok(());
         };
@@ -219,7 +173,9 @@ pub fn read_forest(alloc: Global, grammar: &Grammar, bytes: &[u8]) -> Result<For
     ensures valid { IfOk result (λ forest. IsValidForest grammar.now forest) }
     ensures fault { IfErr result (λ refusal. IsForestRefusal grammar.now bytes.now refusal) }
 {
-    let mut trees = List::new(alloc);
-    read_trees(alloc, grammar, bytes, &mut trees)?;
-    Ok(Forest { trees })
+    let mut builder = TreeBuilder::new(alloc);
+    read_trees(alloc, grammar, bytes, &mut builder)?;
+    Ok(Forest {
+        trees: builder.into_trees(),
+    })
 }

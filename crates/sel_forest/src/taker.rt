@@ -1,34 +1,37 @@
-//! What becomes of the trees of a text, as they are read.
+//! What becomes of the tokens of a text, as they are read.
 
 ghost use Rattle.std.specs.Prelude.{◌≡◌, ◌++◌, ◌∷◌, [], List, OnOk};
+ghost use Rattle.sel_grammar.specs.declared.grammar.Grammar.{Grammar as AnyGrammar};
 ghost use Rattle.sel_forest.specs.declared.forest.Tree.{Tree as AnyTree};
-ghost use Rattle.sel_forest.specs.Valid.{IsValidTree};
+ghost use Rattle.sel_forest.specs.Pieces.{view};
+ghost use Rattle.sel_forest.specs.Taking.{Continues, AreTokensOf};
+ghost use Rattle.sel_forest.specs.Tokens.{Token as AnyToken};
 
-use crate::forest::Tree;
-use sel_base::{List, NoMemory};
-use sel_grammar::Grammar;
+use crate::tokens::Piece;
+use sel_base::NoMemory;
 
-/// Takes the trees of a text, one after the other.
+/// Takes the tokens of a text, line by line, when they are known to be right.
 pub trait Taker {
     ghost use Rattle.std.specs.Prelude.{List};
     ghost use Rattle.sel_grammar.specs.declared.grammar.Grammar.{Grammar};
     ghost use Rattle.sel_forest.specs.declared.forest.Tree.{Tree};
+    ghost use Rattle.sel_forest.specs.Tokens.{Token};
 
-    /// these trees were taken under the grammar, and no others
-    ghost took: { Self → Grammar → List Tree → Type 0 };
+    /// under the grammar these trees were taken, then these tokens of a line, and no others
+    ghost took: { Self → Grammar → List Tree → List Token → Type 0 };
 
-    /// Takes the next tree.
-    fn take(&mut self, grammar: &Grammar, tree: Tree) -> Result<(), NoMemory>
-        requires so_far { (trees : List AnyTree) × took self.old grammar.now trees }
-        requires valid { IsValidTree grammar.now tree }
-        ensures took { (trees : List AnyTree) → took self.old grammar.now trees → OnOk result (took self.new grammar.now (trees ++ tree ∷ [])) };
-}
+    /// A line begins.
+    fn begin(&mut self, line: &[u8]) -> Result<(), NoMemory>
+        ensures { (g : AnyGrammar) (trees : List AnyTree) → took self.old g trees [] → OnOk result (took self.new g trees []) };
 
-impl Taker for List<Tree> {
-    ghost took = { λ kept g trees. kept ≡ trees };
+    /// Takes the next token of the line. The operator is that which the token names.
+    fn take(&mut self, operator: u8, piece: &Piece<'_>) -> Result<(), NoMemory>
+        requires { (g : AnyGrammar) × (trees : List AnyTree) × (ts : List AnyToken) × took self.old g trees ts × Continues g operator ts (view piece.now) }
+        ensures { (g : AnyGrammar) (trees : List AnyTree) (ts : List AnyToken) → took self.old g trees ts → Continues g operator ts (view piece.now)
+            → OnOk result (took self.new g trees (ts ++ view piece.now ∷ [])) };
 
-    fn take(&mut self, _: &Grammar, tree: Tree) -> Result<(), NoMemory> {
-        self.push(tree)?;
-        Ok(())
-    }
+    /// The line's tree is whole.
+    fn end(&mut self) -> Result<(), NoMemory>
+        ensures { (g : AnyGrammar) (trees : List AnyTree) (ts : List AnyToken) (tree : AnyTree) → took self.old g trees ts → AreTokensOf g ts tree
+            → OnOk result (took self.new g (trees ++ tree ∷ []) []) };
 }

@@ -1,6 +1,6 @@
 use Rattle.std.proofs.Common.{◌≡◌, ◌∙◌, ◌++◌, ◌∷◌, [], ap, sym, arith, length}
 use Rattle.sel_forest.specs.OpenNodes.{attached}
-use Rattle.sel_forest.proofs.PutDown.{last_is, last_set, same_front, same_last}
+use Rattle.sel_forest.proofs.Lasts.{last_is, last_set, same_front, same_last}
 use Rattle.sel_forest.proofs.build.close.Goals as goal
 
 pub returns-in-Some-last_mut : goal.returns-in-Some-last_mut

@@ -1,5 +1,6 @@
 use Rattle.std.proofs.Common.{◌∙◌, ◌++◌, ◌∷◌, [], ap, arith}
-use Rattle.sel_forest.proofs.PutDown.{marked, last_is, last_set}
+use Rattle.sel_forest.proofs.Lasts.{last_is, last_set}
+use Rattle.sel_forest.proofs.PutDown.{marked}
 use Rattle.sel_forest.proofs.build.set_attribute.Goals as goal
 
 pub returns-in-Some : goal.returns-in-Some

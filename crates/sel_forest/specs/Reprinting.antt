@@ -1,0 +1,26 @@
+-- What printing puts down of the tokens of a text.
+use Rattle.std.specs.Prelude.{◌≡◌, ℕ, List, [], ◌++◌, codes, map, flat_map}
+use Rattle.std.specs.Fmt.{signed_decimal}
+use Rattle.sel_grammar.specs.declared.grammar.Grammar.{Grammar}
+use Rattle.sel_grammar.specs.PlainTrees.{PlainTree}
+use Rattle.sel_forest.specs.declared.forest.Tree.{Tree}
+use Rattle.sel_forest.specs.Printed.{forest_text, tree_of}
+use Rattle.sel_forest.specs.Tokens.{Token, Name, Number, Symbol, Colon, Open, Comma, Close}
+use Rattle.sel_forest.specs.TreeText.{value_of}
+
+-- a token in print
+abbrev pub token_text : Token → List ℕ
+token_text (Name bytes) = bytes
+token_text (Number bytes) = signed_decimal (value_of bytes)
+token_text (Symbol bytes) = bytes
+token_text Colon = codes ":"
+token_text Open = codes "("
+token_text Comma = codes ","
+token_text Close = codes ")"
+token_text _ = []
+
+-- the text is that of these trees, each on a line, and then that of these tokens of a line
+pub record HasReprinted (g : Grammar) (text : List ℕ) (trees : List Tree) (ts : List Token) : Type 0 where
+  pub plain : List PlainTree
+  pub trees_are : trees ≡ map tree_of plain
+  pub text_is : text ≡ forest_text g plain ++ flat_map token_text ts
