@@ -46,8 +46,31 @@ fn place(name: &[u8]) -> usize
     place
 }
 
-/// For each place a guess: the number of an operator whose name has this place, if any. A name is
-/// then mostly found with one comparison.
+/// The place behind another one. The first is behind the last.
+fn next_place(place: usize) -> usize
+    requires { place < guess_places }
+    ensures { result < guess_places }
+{
+    (place + 1) % PLACES
+}
+
+/// The first place from that of the name on where there is no guess yet, if there is one.
+fn free_place(guesses: &[u8], name: &[u8]) -> usize
+    requires { length guesses.now ≡ guess_places }
+    ensures { result < guess_places }
+{
+    let mut at = place(name);
+    'places: for _ in 0..PLACES {
+        if guesses[at] == NO_OPERATOR {
+            return at;
+        }
+        at = next_place(at);
+    }
+    at
+}
+
+/// For each place a guess: the number of an operator, if any. That of a name stands at the name's place
+/// or behind it, with no place between without a guess, so that a name is mostly found with one comparison.
 pub fn guesses_of(alloc: Global, grammar: &Grammar) -> Result<Vec<u8>, NoMemory>
     requires { length grammar.now.operators ≤ most_operators }
     ensures { IfOk result (λ guesses. AreGuesses grammar.now guesses.items) }
@@ -55,7 +78,8 @@ pub fn guesses_of(alloc: Global, grammar: &Grammar) -> Result<Vec<u8>, NoMemory>
     let mut guesses = vec![in alloc; NO_OPERATOR; PLACES]?;
     'operators: for operator in grammar.operators.as_slice() {
         let name = operator.name.as_slice();
-        guesses[place(name)] = operator_number(grammar, name) as u8;
+        let at = free_place(&guesses, name);
+        guesses[at] = operator_number(grammar, name) as u8;
     }
     Ok(guesses)
 }
@@ -66,11 +90,16 @@ fn operator_of(grammar: &Grammar, guesses: &[u8], name: &[u8]) -> usize
     ensures number { result ≡ operator_number grammar.now name.now }
     ensures fits { result ≤ length grammar.now.operators }
 {
-    let guess = guesses[place(name)] as usize;
-    if let Some(operator) = grammar.operators.get(guess) {
+    let mut at = place(name);
+    'places: for _ in 0..PLACES {
+        let guess = guesses[at] as usize;
+        let Some(operator) = grammar.operators.get(guess) else {
+            return operator_number(grammar, name);
+        };
         if is_named(operator, name) {
             return guess;
         }
+        at = next_place(at);
     }
     operator_number(grammar, name)
 }

@@ -7,4 +7,4 @@ operators-init c = first_guesses c.args.grammar.now 255 4096 c.in_ok-guesses.gue
 
 pub operators-preserved : goal.operators-preserved
 operators-preserved c =
-    one_guess_more c.args.grammar.now c.operators.guesses.items c.place.result c.operator_number.result c.as_slice-name.result.now c.operators.invariant c.operator_number.ensures.number
+    one_guess_more c.args.grammar.now c.operators.guesses.items c.free_place-at.result c.operator_number.result c.as_slice-name.result.now c.operators.invariant c.operator_number.ensures.number
