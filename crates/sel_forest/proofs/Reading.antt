@@ -5,7 +5,7 @@ use Rattle.sel_grammar.specs.declared.grammar.Attribute.TheVariants as attribute
 use Rattle.sel_grammar.specs.declared.grammar.Grammar.{Grammar}
 use Rattle.sel_grammar.specs.declared.grammar.Operator.{Operator}
 use Rattle.sel_grammar.specs.Limits.{IsWithinLimits, IsArity}
-use Rattle.sel_grammar.specs.PlainTrees.{PlainTree, Node0, Node1, Node2, size}
+use Rattle.sel_grammar.specs.PlainTrees.{PlainTree, Node0, Node1, Node2}
 use Rattle.sel_forest.specs.Limits.{most_nodes, greatest_depth}
 use Rattle.sel_forest.specs.Valid.{depth, Takes, IsAttribute, IsOver}
 use Rattle.sel_forest.specs.Tokens.{Token, Name, Colon, Open, Comma, Close}

@@ -11,7 +11,7 @@ use Rattle.std.proofs.lemmas.Option.{slice_get-map, slice_get_read}
 use Rattle.std.proofs.lemmas.Slice.Eq.{bytes_eq-Decides}
 use Rattle.sel_grammar.specs.declared.grammar.Attribute.{Attribute}
 use Rattle.sel_grammar.specs.declared.grammar.Grammar.{Grammar}
-use Rattle.sel_grammar.specs.PlainTrees.{PlainTree, Node0, Node1, Node2, size}
+use Rattle.sel_grammar.specs.PlainTrees.{PlainTree, size}
 use Rattle.sel_forest.specs.declared.forest.Tree.{Tree}
 use Rattle.sel_forest.specs.declared.forest.Forest.{Forest}
 use Rattle.sel_forest.specs.ForestText.{SpellsLine, LinesSpell, no_lines, blank_line, tree_line, lines_of, SpellsForest}
@@ -87,7 +87,7 @@ reprinted_line g text text' trees ts tree h tokens e =
     let before = forest_text g h.plain in
     let line = tree_is g ts (whole tokens.root) tokens.spells tokens.over in
     let next = printed_next g trees tree (whole tokens.root) before text' (record { plain = h.plain; trees_are = h.trees_are; text_is = refl }) tokens.postorder
-        (e ∙ (λ j. (h.text_is ∙ ap (λ x. before ++ x) line) j ++ codes "\n") ∙ append_assoc before (tree_text g (whole tokens.root)) (codes "\n")) in
+    (e ∙ (λ j. (h.text_is ∙ ap (λ x. before ++ x) line) j ++ codes "\n") ∙ append_assoc before (tree_text g (whole tokens.root)) (codes "\n")) in
     record { plain = next.plain; trees_are = next.trees_are; text_is = next.text_is ∙ append-none (forest_text g next.plain) }
 
 -- a tree of a valid forest

@@ -205,18 +205,18 @@ stands_end g two trees line n s rest r h k =
     elim ((moved g two trees line n s rest r Ended h k).ends refl) [
       | inl e ↦ inl (e.1, subst (IsCutInto line) e.1 cut, ap total e.0)
       | inr e ↦
-        let tree : Tree = record { nodes = postorder 0 (whole e.0) } in
-        let q : total (opened g ts) ≡ size (whole e.0) + 0 = ap total e.1 in
-        inr (
-          tree,
-          record { root = e.0; opened_is = e.1; spells = e.2; over = e.3; postorder = refl },
-          record {
-            tokens = ts;
-            cut = cut;
-            valid = record { plain = whole e.0; postorder = refl; over = e.3; small = omega (arith, f.few, f.names, q); shallow = e.4 };
-            spells = e.2;
-          },
-          r.few (omega (arith, f.names, q, size_some (whole e.0))),
-          omega (arith, q, size_some (whole e.0)),
-        )
+          let tree : Tree = record { nodes = postorder 0 (whole e.0) } in
+          let q : total (opened g ts) ≡ size (whole e.0) + 0 = ap total e.1 in
+          inr (
+            tree,
+            record { root = e.0; opened_is = e.1; spells = e.2; over = e.3; postorder = refl },
+            record {
+              tokens = ts;
+              cut = cut;
+              valid = record { plain = whole e.0; postorder = refl; over = e.3; small = omega (arith, f.few, f.names, q); shallow = e.4 };
+              spells = e.2;
+            },
+            r.few (omega (arith, f.names, q, size_some (whole e.0))),
+            omega (arith, q, size_some (whole e.0)),
+          )
     ]

@@ -174,7 +174,11 @@ impl Taker for TreeBuilder {
 
     fn take(&mut self, operator: u8, piece: &Piece<'_>) -> Result<(), NoMemory> {
         take(
-            self.alloc, &mut self.stack, &mut self.nodes, operator, piece,
+            self.alloc,
+            &mut self.stack,
+            &mut self.nodes,
+            operator,
+            piece,
         )?;
         Ok(())
     }

@@ -148,7 +148,13 @@ pub fn read_trees<T: Taker>(
     'lines: loop {
         let cut = first_line(rest);
         trees = read_line(
-            grammar, &guesses, trees, number, cut.line, &mut around, taker,
+            grammar,
+            &guesses,
+            trees,
+            number,
+            cut.line,
+            &mut around,
+            taker,
         )?;
         let Some(behind) = cut.rest else {
             return Ok(());

@@ -245,6 +245,48 @@ fn nodes_stand_in_postorder_with_their_attributes(rt: HostRuntime) {
     assert!(rt; matches!(node.attribute, Attribute::Number(-7)));
 }
 
+// Leaves whose names share a place of the guesses, or stand behind it: SD and Rc, and SE and Rd.
+#[tactic(auto, using(crate::proofs::SmallGrammars::without_rules))]
+fn crowded_grammar(alloc: Global) -> Result<Grammar, NoMemory>
+    ensures { IfOk result (λ g. IsWithinLimits g) }
+{
+    let mut operators = List::new(alloc);
+    declare(alloc, &mut operators, "SD", Some(0))?;
+    declare(alloc, &mut operators, "Rc", Some(0))?;
+    declare(alloc, &mut operators, "SE", Some(0))?;
+    declare(alloc, &mut operators, "Rd", Some(0))?;
+    let mut nonterminals = List::new(alloc);
+    let statement = name(alloc, "stmt")?;
+    nonterminals.push(statement)?;
+    Ok(Grammar {
+        start: 0,
+        operators,
+        nonterminals,
+        rules: List::new(alloc),
+    })
+}
+
+#[test]
+fn names_that_share_a_place_are_told_apart(rt: HostRuntime) {
+    let alloc = rt.alloc();
+    let Some(grammar) = crowded_grammar(alloc).ok() else {
+        panic!(rt; "no memory");
+    };
+    for (text, want) in [("SD", 0), ("Rc", 1), ("SE", 2), ("Rd", 3)] {
+        let Some(forest) = read_forest(alloc, &grammar, text.as_bytes()).ok() else {
+            panic!(rt; "refused");
+        };
+        let root = forest.trees.get(0).and_then(|tree| tree.nodes.get(0));
+        assert!(rt; matches!(root, Some(node) if node.operator == want));
+    }
+    for text in ["Re", "SF", "RD", "S", "SDSD"] {
+        assert_eq!(rt;
+            judged(alloc, &grammar, text.as_bytes()),
+            (UNKNOWN_OPERATOR, 1, 1)
+        );
+    }
+}
+
 // The pieces, each so many times.
 pub fn repeated(alloc: Global, pieces: &[(&str, usize)]) -> Result<Vec<u8>, NoMemory> {
     let mut text = Vec::new(alloc);

@@ -1,5 +1,5 @@
 -- The loop over a line's tokens.
-use Rattle.std.proofs.Common.{◌≡◌, ◌-◌, ◌∙◌, ◌++◌, ◌∷◌, [], length, refl, ap, sym, subst, arith, None, Some}
+use Rattle.std.proofs.Common.{◌-◌, ◌∙◌, [], length, refl, sym, subst, arith, None, Some}
 use Rattle.sel_forest.specs.ForestText.{IsLineRefusal}
 use Rattle.sel_forest.proofs.Reading.{most_two}
 use Rattle.sel_forest.proofs.PlaceLemmas.{append-none}
@@ -44,9 +44,14 @@ returns-then-names-eq0-clause-line g c = λ taken took.
     let e = sees c.tokens.state c.tokens.rest.now c.wants_attribute.ensures c.next_token-found.ensures.from c.next_token-found.ensures.token c.next_token-found.ensures.behind c.step.ensures in
     let ends = sees_end c.args.grammar.now c.args.trees c.args.line.now _ _ _ c.tokens.invariant.reached _ _ _ _ _ e _ c.kind_of.ensures (most_two c.args.grammar.now c.requires.within) c.in-Some.next c.in-Some.is c.in-Ended.is c.in_default-kind_of.is in
     let none = names_total c.args.grammar.now c.args.trees c.args.line.now _ _ _ c.tokens.invariant.reached in
-    let (empty, blank) = ends_blank c.args.grammar.now c.args.trees c.args.line.now _ ends (sym none ∙ sym c.names.ensures ∙ c.if-names-eq0.true) in
-    (None, blank, tt, omega arith, subst (λ taken. g.T.Taker.took c.tokens.taker c.args.grammar.now taken []) (append-none taken)
-    (subst (g.T.Taker.took c.tokens.taker c.args.grammar.now taken) empty (c.tokens.invariant.took taken took)))
+    let (empty, blank) = ends_blank c.args.grammar.now c.args.trees c.args.line.now _ ends (sym none ∙ sym c.names.ensures ∙ c.if-names-eq0.true) in (
+      None,
+      blank,
+      tt,
+      omega arith,
+      subst (λ taken. g.T.Taker.took c.tokens.taker c.args.grammar.now taken []) (append-none taken)
+          (subst (g.T.Taker.took c.tokens.taker c.args.grammar.now taken) empty (c.tokens.invariant.took taken took)),
+    )
 
 pub returns-in-Ended-clause-line : goal.returns-in-Ended-clause-line
 returns-in-Ended-clause-line g c = λ taken took.
@@ -59,9 +64,13 @@ returns-in-Ended-clause-line g c = λ taken took.
 pub take-requires : goal.take-requires
 take-requires g c =
     let e = sees c.tokens.state c.tokens.rest.now c.wants_attribute.ensures c.next_token-found.ensures.from c.next_token-found.ensures.token c.next_token-found.ensures.behind c.step.ensures in
-    let (taken, took) = c.requires.so_far in
-    (c.args.grammar.now, taken, _, c.tokens.invariant.took taken took,
-    sees_continues c.args.grammar.now c.args.trees c.args.line.now _ _ _ c.tokens.invariant.reached _ _ _ _ _ e _ c.kind_of.ensures (most_two c.args.grammar.now c.requires.within) c.in-Some.next _ c.in-Some.is c.in_default-kind_of.is c.operator_named-operator.ensures.named)
+    let (taken, took) = c.requires.so_far in (
+      c.args.grammar.now,
+      taken,
+      _,
+      c.tokens.invariant.took taken took,
+      sees_continues c.args.grammar.now c.args.trees c.args.line.now _ _ _ c.tokens.invariant.reached _ _ _ _ _ e _ c.kind_of.ensures (most_two c.args.grammar.now c.requires.within) c.in-Some.next _ c.in-Some.is c.in_default-kind_of.is c.operator_named-operator.ensures.named,
+    )
 
 pub follow-requires : goal.follow-requires
 follow-requires g c = record {

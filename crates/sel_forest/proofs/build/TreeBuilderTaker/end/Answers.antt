@@ -1,6 +1,5 @@
-use Rattle.std.proofs.Common.{◌≡◌, ◌++◌, ◌∷◌, [], ap, sym, ◌∙◌, subst}
-use Rattle.sel_forest.specs.declared.forest.Tree.{Tree}
-use Rattle.sel_forest.specs.OpenNodes.{own_node, own_nodes, Holds}
+use Rattle.std.proofs.Common.{◌++◌, ◌∷◌, [], sym, ◌∙◌, subst}
+use Rattle.sel_forest.specs.OpenNodes.{own_node, Holds}
 use Rattle.sel_forest.proofs.PutDown.{root_nodes}
 use Rattle.sel_forest.proofs.build.TreeBuilderTaker.end.Goals as goal
 
