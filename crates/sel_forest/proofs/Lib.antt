@@ -24,4 +24,5 @@ pub mod SmallGrammars
 pub mod Walking
 pub mod Leading
 pub mod Rereading
+pub mod Numerals
 pub mod Reprinting

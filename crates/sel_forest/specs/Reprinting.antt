@@ -1,5 +1,5 @@
 -- What printing puts down of the tokens of a text.
-use Rattle.std.specs.Prelude.{◌≡◌, ℕ, List, [], ◌++◌, codes, map, flat_map}
+use Rattle.std.specs.Prelude.{◌≡◌, ℕ, ◌==◌, nat_lt, Bool, false, if◌then◌else◌, List, [], ◌∷◌, ◌++◌, codes, map, flat_map}
 use Rattle.std.specs.Fmt.{signed_decimal}
 use Rattle.sel_grammar.specs.declared.grammar.Grammar.{Grammar}
 use Rattle.sel_grammar.specs.PlainTrees.{PlainTree}
@@ -7,6 +7,16 @@ use Rattle.sel_forest.specs.declared.forest.Tree.{Tree}
 use Rattle.sel_forest.specs.Printed.{forest_text, tree_of}
 use Rattle.sel_forest.specs.Tokens.{Token, Name, Number, Symbol, Colon, Open, Comma, Close}
 use Rattle.sel_forest.specs.TreeText.{value_of}
+
+-- digits of which the first isn't 0
+abbrev pub is_above_zero : List ℕ → Bool
+is_above_zero [] = false
+is_above_zero (b ∷ bytes) = nat_lt 48 b
+
+-- a number that isn't 0 and has no needless zero is its own print
+abbrev pub is_in_print : List ℕ → Bool
+is_in_print [] = false
+is_in_print (b ∷ bytes) = is_above_zero (if b == 45 then bytes else (b ∷ bytes))
 
 -- a token in print
 abbrev pub token_text : Token → List ℕ

@@ -1,15 +1,19 @@
 //! Forests printed while they are read.
 
-ghost use Rattle.std.specs.Prelude.{◌≡◌, ◌++◌, ◌<◌, [], List, length, IfOk, IfErr, OnOk};
+ghost use Rattle.std.specs.Prelude.{◌≡◌, ◌++◌, ◌<◌, [], List, length, false, IfOk, IfErr, OnOk};
+ghost use Rattle.std.specs.Fmt.{signed_decimal};
+ghost use Rattle.std.specs.Str.Parse.{AllDigits};
 ghost use Rattle.sel_grammar.specs.declared.grammar.Grammar.{Grammar as AnyGrammar};
 ghost use Rattle.sel_grammar.specs.Limits.{IsWithinLimits};
 ghost use Rattle.sel_forest.specs.declared.forest.Tree.{Tree as AnyTree};
 ghost use Rattle.sel_forest.specs.ForestText.{IsForestRefusal};
+ghost use Rattle.sel_forest.specs.LineFaults.{is_too_large};
 ghost use Rattle.sel_forest.specs.OpenNodes.{Opened, TakesToken};
 ghost use Rattle.sel_forest.specs.Pieces.{view, IsLawful};
 ghost use Rattle.sel_forest.specs.Printed.{HasNames, IsPrinted};
 ghost use Rattle.sel_forest.specs.Reprinted.{IsReprinted};
-ghost use Rattle.sel_forest.specs.Reprinting.{token_text, HasReprinted};
+ghost use Rattle.sel_forest.specs.Reprinting.{is_above_zero, is_in_print, token_text, HasReprinted};
+ghost use Rattle.sel_forest.specs.TreeText.{without_sign, value_of};
 
 use crate::number::number;
 use crate::print::{put, put_number};
@@ -21,18 +25,66 @@ use sel_base::{List, NoMemory};
 use sel_grammar::Grammar;
 use std::alloc::Global;
 
+/// Up to this length a word is put byte by byte: to call for a copy would take longer.
+const SHORT: usize = 8;
+
+/// Puts a name, a number in print or a symbol behind the text.
+fn put_word(text: &mut Vec<u8>, bytes: &[u8]) -> Result<(), NoMemory>
+    ensures { OnOk result (text.new.items ≡ text.old.items ++ bytes.now) }
+{
+    if bytes.len() > SHORT {
+        put(text, bytes)?;
+        return Ok(());
+    }
+    'bytes: for byte in bytes {
+        text.push(*byte)?;
+    }
+    Ok(())
+}
+
+fn is_above_zero(digits: &[u8]) -> bool
+    ensures { result ≡ is_above_zero digits.now }
+{
+    match digits.first() {
+        None => false,
+        Some(digit) => *digit > b'0',
+    }
+}
+
+/// Whether the bytes of a number are its print: they aren't 0, and have no needless zero.
+fn is_in_print(bytes: &[u8]) -> bool
+    ensures { result ≡ is_in_print bytes.now }
+{
+    match bytes.split_first() {
+        None => false,
+        Some((first, rest)) => is_above_zero(if *first == b'-' { rest } else { bytes }),
+    }
+}
+
+/// Puts a number in print behind the text.
+#[tactic(auto, using(crate::proofs::Numerals::in_print))]
+fn put_numeral(text: &mut Vec<u8>, bytes: &[u8]) -> Result<(), NoMemory>
+    requires { AllDigits 10 (without_sign bytes.now) }
+    ensures { is_too_large bytes.now ≡ false → OnOk result (text.new.items ≡ text.old.items ++ signed_decimal (value_of bytes.now)) }
+{
+    if is_in_print(bytes) {
+        put_word(text, bytes)?;
+        return Ok(());
+    }
+    if let Some(number) = number(bytes) {
+        put_number(text, number)?;
+    }
+    Ok(())
+}
+
 /// Puts a token in print behind the text.
 fn put_token(text: &mut Vec<u8>, piece: &Piece<'_>) -> Result<(), NoMemory>
     requires { IsLawful (view piece.now) }
     ensures { (os : List Opened) → TakesToken os (view piece.now) → OnOk result (text.new.items ≡ text.old.items ++ token_text (view piece.now)) }
 {
     match piece {
-        Piece::Name(bytes) | Piece::Symbol(bytes) => put(text, bytes)?,
-        Piece::Number(bytes) => {
-            if let Some(number) = number(bytes) {
-                put_number(text, number)?;
-            }
-        }
+        Piece::Name(bytes) | Piece::Symbol(bytes) => put_word(text, bytes)?,
+        Piece::Number(bytes) => put_numeral(text, bytes)?,
         Piece::Colon => text.push(b':')?,
         Piece::Open => text.push(b'(')?,
         Piece::Comma => text.push(b',')?,

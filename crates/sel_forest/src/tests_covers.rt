@@ -318,6 +318,18 @@ fn a_forest_is_printed_on_lines_without_blanks(rt: HostRuntime) {
         ),
         ("MUL : 5 ( NEG:x(ADDR) )", "MUL:5(NEG:x(ADDR))\n"),
         (
+            "REG:0\nREG:00\nREG:-5\nREG:-05\nREG:-00",
+            "REG:0\nREG:0\nREG:-5\nREG:-5\nREG:0\n",
+        ),
+        (
+            "REG:12345678\nREG:-1234567\nREG:123456789\nREG:-12345678\nREG:012345678",
+            "REG:12345678\nREG:-1234567\nREG:123456789\nREG:-12345678\nREG:12345678\n",
+        ),
+        (
+            "REG:symbol_8\nREG:symbol__9\nREG: .a$longer@symbol_",
+            "REG:symbol_8\nREG:symbol__9\nREG:.a$longer@symbol_\n",
+        ),
+        (
             "ASGN(ADDR:x,ADD(INDIR(ADDR:y),ADD(NEG(REG:r1),MUL(CNST:00,CNST:1))))",
             "ASGN(ADDR:x,ADD(INDIR(ADDR:y),ADD(NEG(REG:r1),MUL(CNST:0,CNST:1))))\n",
         ),
