@@ -112,6 +112,7 @@ impl Around {
     }
 
     /// Goes on behind a token. The operator is that which the token names.
+    #[inline(always)]
     pub fn follow(&mut self, operator: u8, piece: &Piece<'_>) -> Result<(), NoMemory>
         requires names { self.old.names < 2 ^ 63 }
         requires kids { IfSome (first_parent self.old.parents) (λ parent. parent.kids < 255) }

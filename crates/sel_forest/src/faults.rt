@@ -127,6 +127,7 @@ fn name_kind(grammar: &Grammar, trees: usize, around: &Around, operator: usize) 
 
 /// The kind of what is wrong with a token with which some line of the form goes on. The operator is
 /// that which the token names.
+#[inline(always)]
 pub fn kind_of(
     grammar: &Grammar,
     trees: usize,

@@ -85,6 +85,7 @@ pub fn guesses_of(alloc: Global, grammar: &Grammar) -> Result<Vec<u8>, NoMemory>
 }
 
 /// The number of the operator with this name, or the number of operators.
+#[inline(always)]
 fn operator_of(grammar: &Grammar, guesses: &[u8], name: &[u8]) -> usize
     requires { AreGuesses grammar.now guesses.now }
     ensures number { result ≡ operator_number grammar.now name.now }
@@ -105,6 +106,7 @@ fn operator_of(grammar: &Grammar, guesses: &[u8], name: &[u8]) -> usize
 }
 
 /// The number of the operator that the token names.
+#[inline(always)]
 pub fn operator_named(grammar: &Grammar, guesses: &[u8], piece: &Piece<'_>) -> usize
     requires { AreGuesses grammar.now guesses.now }
     ensures named { IsNamedBy grammar.now result (view piece.now) }

@@ -84,6 +84,7 @@ fn mark<'a>(b: u8) -> Piece<'a>
 }
 
 /// The token at the front of the bytes, which begin with no blank. Behind a colon a number or a symbol is meant.
+#[inline(always)]
 fn token_at(attribute: bool, bytes: &[u8]) -> Piece<'_>
     ensures token { view result ≡ tokens.token_of attribute bytes.now }
     ensures fits { tokens.width (view result) ≤ length bytes.now }
@@ -128,6 +129,7 @@ pub struct Found<'a> {
 }
 
 /// The next token, blanks left out.
+#[inline(always)]
 pub fn next_token(attribute: bool, bytes: &[u8]) -> Found<'_>
     ensures from { result.from.now ≡ tokens.skip bytes.now }
     ensures token { view result.piece ≡ tokens.token_of attribute (tokens.skip bytes.now) }
