@@ -192,6 +192,7 @@ module _ (g : Grammar) where
           record {
             is = refl;
             below = body_at (users + j + 1) part b.before b.after b.low b.is (let l = b.long in omega arith);
+            low = b.low;
             operator = b.operator;
           },
         )

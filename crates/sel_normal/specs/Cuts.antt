@@ -4,6 +4,7 @@ use Rattle.sel_grammar.specs.declared.grammar.Grammar.{Grammar}
 use Rattle.sel_grammar.specs.declared.grammar.Rule.{Rule}
 use Rattle.sel_grammar.specs.declared.grammar.Pattern.{Pattern, Leaf, Nullary, Unary', Binary', end_of-Pattern, more_of-Pattern}
 use Rattle.sel_grammar.specs.Fits.{rule_at}
+use Rattle.sel_grammar.specs.Lawful.{IsPatternOf}
 use Rattle.sel_normal.specs.declared.normal.NormalRule.{NormalRule}
 use Rattle.sel_normal.specs.NormalForms.{NormalForm, normal_at}
 use Rattle.sel_normal.specs.Forms.{places, parts, body, helper_rule, test_number}
@@ -37,6 +38,7 @@ pub record CutUser (g : Grammar) (normal : NormalForm) (rule : Rule) (nr : Norma
 pub record CutHelper (g : Grammar) (j : ℕ) (part : Pattern) (nr : NormalRule) : Type 0 where
   pub is : nr ≡ helper_rule (length g.nonterminals + j) part
   pub below : BodyAt g (length g.nonterminals + j + 1) part
+  pub low : IsPatternOf g part
   pub operator : IsOperatorPart part
 
 -- the normal rules are the grammar's rules, cut, and the helpers' of all inner parts

@@ -10,6 +10,7 @@ use Rattle.sel_normal.specs.Forms.{IsFormOf}
 use Rattle.sel_normal.specs.NormalFaults.{IsNormalFault, IsAccepted}
 use Rattle.sel_normal.specs.Seen.{seen}
 use Rattle.sel_normal.specs.Matches.{HasNormalMatch, HasUserMatch}
+use Rattle.sel_normal.specs.Standing.{IsStanding}
 
 -- A grammar's normal form has at most one fault.
 abbrev pub NormalFaultIsOne : Type 0
@@ -30,3 +31,7 @@ EachHasNormalMatch = (g : Grammar) (normal : NormalForm) (n : ℕ) (t : PlainTre
 -- To each derivation in the normal form from a user nonterminal there is exactly one under the grammar.
 abbrev pub EachHasUserMatch : Type 0
 EachHasUserMatch = (g : Grammar) (normal : NormalForm) (n : ℕ) (t : PlainTree) (e : Derivation) → IsLawful g → IsFormOf g normal → n < length g.nonterminals → Derives (seen normal) e n t → HasUserMatch g normal n t e
+
+-- The normal form of an accepted grammar stands.
+abbrev pub LawfulFormsStand : Type 0
+LawfulFormsStand = (g : Grammar) (normal : NormalForm) → IsLawful g → IsAccepted g → IsFormOf g normal → IsStanding normal

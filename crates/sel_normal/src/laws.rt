@@ -1,5 +1,5 @@
 //! Laws of the definitions. The functions do nothing: their contracts say them.
-ghost use Rattle.sel_normal.specs.Laws.{AcceptedOrFault, EachHasNormalMatch, EachHasUserMatch, NormalFaultIsOne, NotAcceptedAndFault};
+ghost use Rattle.sel_normal.specs.Laws.{AcceptedOrFault, EachHasNormalMatch, EachHasUserMatch, LawfulFormsStand, NormalFaultIsOne, NotAcceptedAndFault};
 
 /// The normal form of a grammar has at most one fault. None is both accepted and at fault, and that of
 /// each lawful grammar is one of the two.
@@ -15,4 +15,9 @@ pub fn normal_or_fault()
 pub fn derivations_match()
     ensures normal { EachHasNormalMatch }
     ensures user { EachHasUserMatch }
+{}
+
+/// Whoever reads a rule of an accepted grammar's normal form finds numbers that exist, and few of them.
+pub fn lawful_forms_stand()
+    ensures { LawfulFormsStand }
 {}

@@ -5,7 +5,7 @@ ghost use Rattle.sel_grammar.specs.Limits.{most_rules, most_normal_nonterminals}
 ghost use Rattle.sel_normal.specs.Forms.{IsFormOf};
 ghost use Rattle.sel_normal.specs.NormalFaults.{IsAccepted, NormalRefusedFor};
 ghost use Rattle.sel_normal.specs.NormalForms.{normal_at};
-ghost use Rattle.sel_normal.specs.Standing.{IsRuleWithin};
+ghost use Rattle.sel_normal.specs.Standing.{IsRuleWithin, IsStanding};
 
 use crate::check::{check_cycles, count_nonterminals};
 use crate::form::{classes_of, cut_rules, push_helper_rules};
@@ -100,6 +100,13 @@ impl Normal {
         ensures few { result ≤ most_normal_nonterminals }
     {
         self.nonterminals
+    }
+
+    /// What each normal form keeps: whoever reads a rule finds numbers that exist, and few of them.
+    pub fn is_standing(&self)
+        ensures { IsStanding self.now }
+    {
+        let _ = &self.nonterminals;
     }
 
     /// How many normal rules there are.
