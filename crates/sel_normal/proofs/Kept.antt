@@ -88,6 +88,7 @@ module _ (g : Grammar) (normal : NormalForm) (form : IsFormOf g normal) where
 
   pub IsStanding-form : IsLawful g → HasFew g → IsStanding normal
   IsStanding-form h few = record {
+    some_nonterminal = (let w = h.within in let s = w.start in let e = form.nonterminals in omega arith);
     few_nonterminals = (let e = form.nonterminals in omega arith);
     few_rules = (let w = h.within in let r = w.rules in omega (arith, rules_long));
     few_tests = (let w = h.within in let r = w.rules in let e = ap length form.tests in let few = tests_few g.rules in omega arith);

@@ -27,8 +27,9 @@ pub record IsRuleWithin (normal : NormalForm) (rule : NormalRule) : Type 0 where
   pub left : rule.left < normal.nonterminals
   pub body : IsBodyWithin normal rule.body
 
--- There are few nonterminals, rules and tests, and each rule names only such as there are.
+-- There is some nonterminal, there are few of them, few rules and few tests, and each rule names only such as there are.
 pub record IsStanding (normal : NormalForm) : Type 0 where
+  pub some_nonterminal : 1 ≤ normal.nonterminals
   pub few_nonterminals : normal.nonterminals ≤ most_normal_nonterminals
   pub few_rules : length normal.rules ≤ most_rules + most_normal_nonterminals
   pub few_tests : length normal.tests ≤ most_rules
