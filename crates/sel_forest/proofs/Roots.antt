@@ -180,3 +180,11 @@ SizesBelow-spelled nodes t n h small i s stands =
 
 pub plain_one : PlainTreeIsOne
 plain_one tree t u h k = same_tree tree.nodes (length tree.nodes - 1) t u (stands_root tree.nodes t h) (stands_root tree.nodes u k)
+
+-- a tree stands at each node
+pub tree_at : (nodes : List Node) (t : PlainTree) (i : ℕ) → nodes ≡ postorder 0 t → i < length nodes → (s : PlainTree) × (IsRootAt nodes i s × (size s ≤ size t))
+unfolding IsPlaced
+tree_at nodes t i h lt =
+    let long : length nodes ≡ size t = ap length h ∙ length-postorder t 0 in
+    let found = stands_each nodes t 0 i i (λ k j lt e. let q : j ≡ k = omega arith in ap (slice_get nodes) q ∙ ap (λ x. slice_get x k) h) (omega arith) (omega arith) in
+    (found.0, (found.1, found.2))
