@@ -10,3 +10,4 @@ pub mod Closing
 pub mod Tables
 pub mod Writing
 pub mod Answer
+pub mod NodeCosts

@@ -1,4 +1,4 @@
--- The contract of `least` cites sel_grammar and sel_forest alone: these are the words of the functions below it.
+-- The contract of `least` cites sel_grammar and sel_forest alone, and that of `table` NodeCosts: the others are words of the functions below them.
 pub mod CostBounds
 pub mod Rows
 pub mod Kinds
@@ -6,3 +6,4 @@ pub mod Offers
 pub mod BestRows
 pub mod Bettering
 pub mod Writing
+pub mod NodeCosts

@@ -5,7 +5,7 @@ ghost use Rattle.sel_plain.specs.Writing.{IsHalfWritten, HasRule, WritesRule};
 ghost use Rattle.sel_plain.specs.Rows.{entry_at, row_at};
 
 use crate::entry::Entry;
-use crate::table::Table;
+use crate::rows::Table;
 use sel_base::NoMemory;
 use sel_forest::{Goal, Node, push_goals, rule_of};
 use sel_grammar::Grammar;

@@ -6,7 +6,7 @@ ghost use Rattle.sel_plain.specs.BestRows.{AreBestRows};
 ghost use Rattle.sel_forest.specs.Places.{SizesBelow};
 
 use crate::row::close_row;
-use crate::table::Table;
+use crate::rows::Table;
 use sel_base::NoMemory;
 use sel_forest::Node;
 use sel_grammar::Grammar;

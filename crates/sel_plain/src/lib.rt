@@ -7,8 +7,10 @@ mod cover;
 mod entry;
 mod fill;
 mod kind;
+mod node_costs;
 mod offer;
 mod row;
-mod table;
+mod rows;
 
 pub use best::least;
+pub use node_costs::table;

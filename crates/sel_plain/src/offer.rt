@@ -4,12 +4,12 @@ ghost use Rattle.sel_plain.specs.Offers.{kids_cost, both_costs, offered, offered
 
 use crate::cost::{capped_sum, no_cost};
 use crate::entry::Entry;
-use crate::table::{Table, entry_of};
+use crate::rows::{Table, entry_of};
 use sel_base::Pair;
 use sel_forest::{Node, in_range, met};
 use sel_grammar::{Pattern, Rule};
 
-fn cost_at(table: &Table, at: usize, nonterminal: usize) -> Option<Pair>
+pub fn cost_at(table: &Table, at: usize, nonterminal: usize) -> Option<Pair>
     ensures { result ≡ entry_cost (entry_at (row_at table.now.rows at) nonterminal) }
 {
     match table.entry(at, nonterminal) {

@@ -14,7 +14,7 @@ use crate::cost::{capped_sum, paid};
 use crate::entry::{Entry, is_kept_out};
 use crate::kind::{RuleKind, rule_kind};
 use crate::offer::offered;
-use crate::table::{Table, entry_of};
+use crate::rows::{Table, entry_of};
 use sel_forest::Node;
 use sel_grammar::{Grammar, Rule};
 

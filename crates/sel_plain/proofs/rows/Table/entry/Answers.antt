@@ -2,8 +2,8 @@
 use Rattle.std.proofs.Common.{◌+◌, ◌*◌, ◌∙◌, sym, ap}
 use Rattle.sel_plain.specs.Rows.{Rows, entry_at, row_at}
 use Rattle.sel_plain.proofs.RowLaws.{entry_rows, entry_rows_past, entry_rows_beside}
-use Rattle.sel_plain.proofs.table.Table.entry.Goals as goal
-use Rattle.sel_plain.proofs.table.Table.entry.Goals.{else-at-self-via-then-at-self+else-nonterminal-self, else-at-self-via-else-at-self}
+use Rattle.sel_plain.proofs.rows.Table.entry.Goals as goal
+use Rattle.sel_plain.proofs.rows.Table.entry.Goals.{else-at-self-via-then-at-self+else-nonterminal-self, else-at-self-via-else-at-self}
 
 pub returns-then-nonterminal-self : goal.returns-then-nonterminal-self
 returns-then-nonterminal-self c =

@@ -2,7 +2,7 @@
 use Rattle.std.proofs.Common.{◌≡◌, ℕ, suc, ◌+◌, ◌++◌, ◌∷◌, [], length, ◌∙◌, sym, ap, add-one, arith}
 use Rattle.sel_plain.specs.Rows.{Row, Rows, rows_of}
 use Rattle.sel_plain.proofs.RowLaws.{rows_of-push, length-rows_of}
-use Rattle.sel_plain.proofs.table.Table.push.Goals as goal
+use Rattle.sel_plain.proofs.rows.Table.push.Goals as goal
 
 pub overflow_add-self : goal.overflow_add-self
 overflow_add-self c =
