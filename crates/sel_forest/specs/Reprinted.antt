@@ -10,3 +10,7 @@ pub record IsReprinted (g : Grammar) (bytes text : List ℕ) : Type 0 where
   pub forest : Forest
   pub spelled : SpellsForest g bytes forest
   pub printed : IsPrinted g forest text
+
+-- whatever forest the bytes spell, the text spells it too
+abbrev pub SpellsTheSame : Grammar → List ℕ → List ℕ → Type 0
+SpellsTheSame g bytes text = (forest : Forest) → SpellsForest g bytes forest → SpellsForest g text forest

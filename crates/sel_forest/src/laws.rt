@@ -1,5 +1,5 @@
 //! Laws of the definitions. The functions do nothing: their contracts say them.
-ghost use Rattle.sel_forest.specs.Laws.{PlainTreeIsOne, ForestIsOne, ForestFaultIsOne, NotForestAndFault, SomeForestOrFault};
+ghost use Rattle.sel_forest.specs.Laws.{PlainTreeIsOne, ForestIsOne, ForestFaultIsOne, NotForestAndFault, SomeForestOrFault, SpelledIsValid, PrintedIsSpelled};
 
 /// Nodes are the postorder of at most one tree.
 pub fn plain_tree_is_one()
@@ -24,4 +24,15 @@ pub fn not_forest_and_fault()
 /// A text spells a forest or has a fault, under each grammar within the limits.
 pub fn some_forest_or_fault()
     ensures { SomeForestOrFault }
+{}
+
+/// Each forest that a text spells is valid under the grammar.
+pub fn spelled_is_valid()
+    ensures { SpelledIsValid }
+{}
+
+/// The printed text of a valid forest spells that forest, where each operator of the grammar has a name
+/// and no two have the same.
+pub fn printed_is_spelled()
+    ensures { PrintedIsSpelled }
 {}

@@ -11,7 +11,7 @@ ghost use Rattle.sel_forest.specs.LineFaults.{is_too_large};
 ghost use Rattle.sel_forest.specs.OpenNodes.{Opened, TakesToken};
 ghost use Rattle.sel_forest.specs.Pieces.{view, IsLawful};
 ghost use Rattle.sel_forest.specs.Printed.{HasNames, IsPrinted};
-ghost use Rattle.sel_forest.specs.Reprinted.{IsReprinted};
+ghost use Rattle.sel_forest.specs.Reprinted.{IsReprinted, SpellsTheSame};
 ghost use Rattle.sel_forest.specs.Reprinting.{is_above_zero, is_in_print, token_text, HasReprinted};
 ghost use Rattle.sel_forest.specs.TreeText.{without_sign, value_of};
 
@@ -128,7 +128,7 @@ pub fn reprint_forest(
     requires within { IsWithinLimits grammar.now }
     requires short { length bytes.now < 4294967295 }
     ensures ok { IfOk result (λ text. IsReprinted grammar.now bytes.now text) }
-    ensures again { HasNames grammar.now → IfOk result (λ text. IsReprinted grammar.now text text) }
+    ensures again { HasNames grammar.now → IfOk result (λ text. SpellsTheSame grammar.now bytes.now text) }
     ensures fault { IfErr result (λ refusal. IsForestRefusal grammar.now bytes.now refusal) }
 {
     let mut reprinter = Reprinter {

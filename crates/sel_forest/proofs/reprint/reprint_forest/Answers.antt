@@ -1,6 +1,7 @@
 use Rattle.std.proofs.Common.{sym, subst}
 use Rattle.sel_forest.specs.Printed.{IsPrinted}
 use Rattle.sel_forest.proofs.ForestLoop.{spelled_valid}
+use Rattle.sel_forest.proofs.OneForest.{forest_one}
 use Rattle.sel_forest.proofs.Reprinting.{printed_spells, reprinted_first, reprinted_printed}
 use Rattle.sel_forest.proofs.reprint.reprint_forest.Goals as goal
 
@@ -17,12 +18,9 @@ returns-clause-ok c =
     }
 
 pub returns-clause-again : goal.returns-clause-again
-returns-clause-again c = λ names.
+returns-clause-again c = λ names forest spelled.
     let g = c.args.grammar.now in
-    let (trees, spelled, took) = c.in_ok-read_trees.ensures.ok in
+    let (trees, read, took) = c.in_ok-read_trees.ensures.ok in
+    let same = forest_one g c.args.bytes.now (record { trees = trees }) forest read spelled in
     let printed = subst (IsPrinted g (record { trees = trees })) (sym c.from_vec.ensures) (reprinted_printed g c.read_trees.new.taker.text.items trees took) in
-    record {
-      forest = record { trees = trees };
-      spelled = printed_spells g names (record { trees = trees }) c.from_vec.result (spelled_valid g c.args.bytes.now (record { trees = trees }) spelled) printed;
-      printed = printed;
-    }
+    printed_spells g names forest c.from_vec.result (spelled_valid g c.args.bytes.now forest spelled) (subst (λ f. IsPrinted g f c.from_vec.result) same printed)
