@@ -1,5 +1,6 @@
 pub mod Best
 pub mod Chains
+pub mod Complete
 pub mod Costs
 pub mod Derivations
 pub mod Expansions

@@ -6,6 +6,7 @@ use Rattle.sel_grammar_text.specs.Items.{Word, word, AmountText, TailText, OneLi
 use Rattle.sel_grammar_text.specs.CostText.{cost_in}
 use Rattle.sel_grammar_text.proofs.Templates.{unequal}
 use Rattle.sel_grammar_text.specs.Spots.{Spot, tokens}
+pub use Rattle.sel_grammar_text.specs.SaidForms.{plain_names, kid_count, preorder}
 use Rattle.sel_grammar_text.specs.Cutting.{commas, kids_behind, pattern_in, or_no_cost, tail_in, Cutting, with_spot, cut_on}
 
 -- Spots by their places and tokens.
@@ -77,10 +78,6 @@ pattern_by (Quoted i b ∷ ts) = []
 pattern_by (Equals ∷ ts) = []
 pattern_by (_ ∷ ts) = pattern_by ts
 
--- the names of a pattern without their places
-abbrev pub plain_names : List (Word × ℕ) → List (List ℕ × ℕ)
-plain_names names = map (λ w. (w.0.bytes, w.1)) names
-
 pattern_so : (ps : List ℕ) (ts : List Token) → plain_names (pattern_in (spots_of ps ts)) ≡ pattern_by ts
 pattern_so ps [] = refl
 pattern_so ps (Name n ∷ ts) = ap (λ k. (n, k) ∷ plain_names (pattern_in (spots_of (tail_of ps) ts))) (kids_so (tail_of ps) ts) ∙ ap (λ x. (n, kids_by ts) ∷ x) (pattern_so (tail_of ps) ts)
@@ -89,14 +86,6 @@ pattern_so ps (Equals ∷ ts) = refl
 pattern_so ps (t ∷ ts) = pattern_so (tail_of ps) ts
 
 -- Patterns in preorder.
-abbrev pub kid_count : Patterns → ℕ
-kid_count no_patterns = 0
-kid_count (pattern n kids more) = 1 + kid_count more
-
-abbrev pub preorder : Patterns → List (List ℕ × ℕ)
-preorder no_patterns = []
-preorder (pattern n kids more) = (n, kid_count kids) ∷ (preorder kids ++ preorder more)
-
 positive : (d : ℕ) → 0 < d → eqb d 0 ≡ false
 positive d h = unequal d 0 (λ e. omega arith)
 

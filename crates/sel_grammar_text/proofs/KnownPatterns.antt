@@ -20,7 +20,7 @@ use Rattle.sel_grammar_text.specs.Meaning.{operators_of, rule_of, range_of, star
 use Rattle.sel_grammar_text.proofs.NameNumbers.{is_among_number}
 use Rattle.sel_grammar_text.proofs.Commas.{kids_sum}
 use Rattle.sel_grammar_text.proofs.NameCounts.{HasFewNames}
-use Rattle.sel_grammar_text.proofs.Shape.{IsNameOf, kids_of, built_fits}
+use Rattle.sel_grammar_text.proofs.Shape.{IsNameOf, kids_of, leaf_names, Fits, built_fits}
 use Rattle.sel_grammar_text.proofs.Known.{IsKnownName, IsKnownRule}
 use Rattle.sel_grammar_text.proofs.TailCosts.{small_tail}
 
@@ -96,15 +96,22 @@ record IsGood (g : Grammar) (p : Pattern) : Type 0 where
   pattern : IsPatternOf g p
   names : names_of p ≤ most_names
 
-pattern_known : (bytes : List ℕ) (items : List Item) (names : List (Word × ℕ)) → AllByRecursion (IsKnownName (operators items) (nonterminals items) (uses (rules items))) names → HasFewNames names
-    → IsGood (said bytes items) (pattern_of (operators items) (nonterminals items) names)
-pattern_known bytes items names known few =
+-- the pattern that the names build
+pub pattern_fits : (bytes : List ℕ) (items : List Item) (names : List (Word × ℕ)) → AllByRecursion (IsKnownName (operators items) (nonterminals items) (uses (rules items))) names → HasFewNames names
+    → Fits (said bytes items) 0 (length (map (numbered (operators items) (nonterminals items)) names)) (leaf_names (map (numbered (operators items) (nonterminals items)) names)) (built (map (numbered (operators items) (nonterminals items)) names))
+pattern_fits bytes items names known few =
     let xs : List PatternName = map (numbered (operators items) (nonterminals items)) names in
     let l : length (map (numbered (operators items) (nonterminals items)) names) ≡ length names = length-map names (numbered (operators items) (nonterminals items)) in
     let k = kids_less (operators items) (nonterminals items) names in
     let enough : kids_of (map (numbered (operators items) (nonterminals items)) names) + 1 ≤ length (map (numbered (operators items) (nonterminals items)) names) = omega (arith, l, k, few.kids) in
-    let f = built_fits (said bytes items) (length xs) 0 xs (omega arith)
-    (all_mapped (IsKnownName (operators items) (nonterminals items) (uses (rules items))) (IsNameOf (said bytes items)) (numbered (operators items) (nonterminals items)) names (name_known bytes items) known) enough in
+    built_fits (said bytes items) (length xs) 0 xs (omega arith)
+    (all_mapped (IsKnownName (operators items) (nonterminals items) (uses (rules items))) (IsNameOf (said bytes items)) (numbered (operators items) (nonterminals items)) names (name_known bytes items) known) enough
+
+pattern_known : (bytes : List ℕ) (items : List Item) (names : List (Word × ℕ)) → AllByRecursion (IsKnownName (operators items) (nonterminals items) (uses (rules items))) names → HasFewNames names
+    → IsGood (said bytes items) (pattern_of (operators items) (nonterminals items) names)
+pattern_known bytes items names known few =
+    let l : length (map (numbered (operators items) (nonterminals items)) names) ≡ length names = length-map names (numbered (operators items) (nonterminals items)) in
+    let f = pattern_fits bytes items names known few in
     record { pattern = f.pattern; names = omega (arith, f.count, l, few.few) }
 
 -- one operator without kids

@@ -22,7 +22,7 @@ use Rattle.sel_grammar_text.proofs.WholeItems.{whole_known}
 use Rattle.sel_grammar_text.proofs.KnownPatterns.{said, said_so, number_below, rule_known}
 
 -- what holds of each element holds of what one place shows
-at_place : {X Y : Type 0} (P : X → Type 0) (Q : Y → Type 0) (f : X → Y) (xs : List X) → ((x : X) → P x → Q (f x)) → AllByRecursion P xs → (k : ℕ) (y : Y) → slice_get (map f xs) k ≡ Some y → Q y
+pub at_place : {X Y : Type 0} (P : X → Type 0) (Q : Y → Type 0) (f : X → Y) (xs : List X) → ((x : X) → P x → Q (f x)) → AllByRecursion P xs → (k : ℕ) (y : Y) → slice_get (map f xs) k ≡ Some y → Q y
 at_place P Q f [] g h k y e = absurd (cc)
 at_place P Q f (x ∷ xs) g h zero y e = let same : f x ≡ y = cc in subst Q same (g x h.0)
 at_place P Q f (x ∷ xs) g h (suc k) y e = at_place P Q f xs g h.1 k y e

@@ -35,6 +35,7 @@ pub mod SourceNames
 pub mod RulesAgain
 pub mod OperatorsAgain
 pub mod RoundTrip
+pub mod SaidForms
 pub mod PrintedExamples
 pub mod NameNumbers
 pub mod ItemLists
@@ -57,3 +58,5 @@ pub mod WholeItems
 pub mod KnownPatterns
 pub mod Lawfulness
 mod TailCosts
+pub mod LawfulTemplates
+pub mod Completeness

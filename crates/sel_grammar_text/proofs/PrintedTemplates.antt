@@ -286,13 +286,13 @@ ends_so ((at, Byte b) ∷ q ∷ ps) = ends_so (q ∷ ps)
 ends_so ((at, Sign c) ∷ q ∷ ps) = ends_so (q ∷ ps)
 ends_so ((at, LoneSign) ∷ q ∷ ps) = ends_so (q ∷ ps)
 
-abbrev parts_plainly : List TemplatePiece → List Part
+abbrev pub parts_plainly : List TemplatePiece → List Part
 parts_plainly [] = []
 parts_plainly (Byte b ∷ qs) = add_byte b (parts_plainly qs)
 parts_plainly (Sign c ∷ qs) = sign_parts c (parts_plainly qs)
 parts_plainly (LoneSign ∷ qs) = add_byte 37 (parts_plainly qs)
 
-parts_so : (ps : List (ℕ × TemplatePiece)) → parts_of ps ≡ parts_plainly (plain ps)
+pub parts_so : (ps : List (ℕ × TemplatePiece)) → parts_of ps ≡ parts_plainly (plain ps)
 parts_so [] = refl
 parts_so ((at, Byte b) ∷ ps) = ap (add_byte b) (parts_so ps)
 parts_so ((at, Sign c) ∷ ps) = ap (sign_parts c) (parts_so ps)

@@ -143,7 +143,7 @@ unfolding end_fault
 no_end_fault items at h k = ap (λ b. cond b (Some (fault limits.no_rules at)) (fault_at limits.no_rule (first_absent (left_names (rules items)) (nonterminal_uses (operators items) items)))) h ∙ ap (fault_at limits.no_rule) k
 
 -- What a text's items are.
-record TextItems (source : List ℕ) (n : ℕ) (ds : List DeclarationForm) (rs : List RuleForm) (last : Token) (ps : List ℕ) : Type 0 where
+pub record TextItems (source : List ℕ) (n : ℕ) (ds : List DeclarationForm) (rs : List RuleForm) (last : Token) (ps : List ℕ) : Type 0 where
   extra : List Item
   are : items_of n source ≡ (head_items ps ds ++ rule_items (rule_texts (rule_places ps ds) rs)) ++ extra
   no_rules_extra : rules extra ≡ []
@@ -171,7 +171,7 @@ text_spots : (source : List ℕ) (n : ℕ) (ds : List DeclarationForm) (rs : Lis
     → first_spots (suc n) source ≡ spots_of (places (first_spots (suc n) source)) (text_tokens ds rs last)
 text_spots source n ds rs last e = spots_so (first_spots (suc n) source) (text_tokens ds rs last) e
 
-text_items : (source : List ℕ) (n : ℕ) (ds : List DeclarationForm) (rs : List RuleForm) (last : Token) → tokens (first_spots (suc n) source) ≡ text_tokens ds rs last → (last ≡ End) ⊎ (last ≡ Percents)
+pub text_items : (source : List ℕ) (n : ℕ) (ds : List DeclarationForm) (rs : List RuleForm) (last : Token) → tokens (first_spots (suc n) source) ≡ text_tokens ds rs last → (last ≡ End) ⊎ (last ≡ Percents)
     → TextItems source n ds rs last (places (first_spots (suc n) source))
 text_items source n ds rs last e o =
     let ps = places (first_spots (suc n) source) in
@@ -197,7 +197,7 @@ head_operators ps ds =
     let p = PercentsItem (head_of (places_past ps (flat_map declaration_tokens ds))) in
     operators-append (declarations_items ps ds) (p ∷ []) ∙ append-nil (operators (declarations_items ps ds))
 
-text_rules : (source : List ℕ) (n : ℕ) (ds : List DeclarationForm) (rs : List RuleForm) (last : Token) (ps : List ℕ) → TextItems source n ds rs last ps → rules (items_of n source) ≡ rule_texts (rule_places ps ds) rs
+pub text_rules : (source : List ℕ) (n : ℕ) (ds : List DeclarationForm) (rs : List RuleForm) (last : Token) (ps : List ℕ) → TextItems source n ds rs last ps → rules (items_of n source) ≡ rule_texts (rule_places ps ds) rs
 text_rules source n ds rs last ps t =
     let texts = rule_texts (rule_places ps ds) rs in
     ap rules t.are ∙ rules-append (head_items ps ds ++ rule_items texts) t.extra ∙ ap (λ x. rules (head_items ps ds ++ rule_items texts) ++ x) t.no_rules_extra

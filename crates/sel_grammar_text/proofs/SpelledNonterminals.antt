@@ -29,7 +29,7 @@ all-append P (x ∷ xs) ys h k = (h.0, all-append P xs ys h.1 k)
 
 -- What is kept where new words come behind names.
 
-all_with : (P : List ℕ → Type 0) (names bs : List (List ℕ)) → AllByRecursion P names → AllByRecursion P bs → AllByRecursion P (with_by names bs)
+pub all_with : (P : List ℕ → Type 0) (names bs : List (List ℕ)) → AllByRecursion P names → AllByRecursion P bs → AllByRecursion P (with_by names bs)
 all_with P names [] h k = h
 all_with P names (b ∷ bs) h k = all_with P (cond (is_among names b) names (names ++ (b ∷ []))) bs (either (is_among names b)) k.1
   where
@@ -98,7 +98,7 @@ rules_free ops nts (r ∷ rs) (t ∷ ts) g h =
 
 -- Of the grammar.
 
-among_at : (bs : List (List ℕ)) (k : ℕ) (b : List ℕ) → slice_get bs k ≡ Some b → is_among bs b ≡ true
+pub among_at : (bs : List (List ℕ)) (k : ℕ) (b : List ℕ) → slice_get bs k ≡ Some b → is_among bs b ≡ true
 among_at [] k b e = cc
 among_at (x ∷ bs) zero b e = ap (λ y. bytes_eq y b || is_among bs b) (same_Some x b e) ∙ ap (λ t. t || is_among bs b) (bytes_same b)
 among_at (x ∷ bs) (suc k) b e = either (bytes_eq x b) (among_at bs k b e)
@@ -115,7 +115,7 @@ nonterminals_free items k =
     (rules_free ops (nonterminals items) k.rs k.texts k.good (lefts_free ops k.head k.texts k.operators_are k.pass_rules)) in
     subst (AllByRecursion (IsFree ops)) (sym (with_so [] ws)) (all_with (IsFree ops) [] (bytes_of ws) tt free)
 
-nonterminals_new : (items : List Item) → AreNew [] (nonterminals items)
+pub nonterminals_new : (items : List Item) → AreNew [] (nonterminals items)
 nonterminals_new items =
     let ws = flat_map (nonterminal_words (operators items)) (rules items) in subst (AreNew []) (sym (with_so [] ws)) (new_with [] (bytes_of ws) tt)
 

@@ -1,12 +1,17 @@
 -- Laws of the definitions.
 use Rattle.std.specs.Prelude.{◌≡◌, ℕ, List, ◌⊎◌, Some, None}
 use Rattle.sel_grammar.specs.Lawful.{IsLawful}
+use Rattle.sel_grammar.specs.Complete.{IsComplete}
 use Rattle.sel_grammar.specs.declared.grammar.Grammar.{Grammar}
 use Rattle.sel_grammar.specs.declared.refusal.GrammarFault.{GrammarFault}
 use Rattle.sel_grammar_text.specs.Tokens.{Token}
-use Rattle.sel_grammar_text.specs.Form.{IsText, GoesOn}
+use Rattle.sel_grammar_text.specs.Form.{RuleForm, rule_tokens, IsText, GoesOn}
+use Rattle.sel_grammar_text.specs.Items.{Item}
+use Rattle.sel_grammar_text.specs.Spots.{Spot, tokens}
+use Rattle.sel_grammar_text.specs.Names.{rules}
+use Rattle.sel_grammar_text.specs.SaidForms.{SayRules, AreRule}
 use Rattle.sel_grammar_text.specs.Machine.{run, begin}
-use Rattle.sel_grammar_text.specs.GrammarText.{SpellsGrammar, IsGrammarFault}
+use Rattle.sel_grammar_text.specs.GrammarText.{IsWhole, items_of, SpellsGrammar, IsGrammarFault}
 use Rattle.sel_grammar_text.specs.declared.form.State.{State}
 use Rattle.sel_grammar_text.specs.declared.form.State.TheVariants.{Ended}
 
@@ -29,6 +34,18 @@ SomeGrammarOrFault = (bytes : List ℕ) → ((g : Grammar) × SpellsGrammar byte
 -- each grammar that a text spells keeps its limits, and so do its rules
 abbrev pub SpelledIsLawful : Type 0
 SpelledIsLawful = (bytes : List ℕ) (g : Grammar) → SpellsGrammar bytes g → IsLawful g
+
+-- each grammar that a text spells has rules for its nonterminals, and lawful templates
+abbrev pub SpelledIsComplete : Type 0
+SpelledIsComplete = (bytes : List ℕ) (g : Grammar) → SpellsGrammar bytes g → IsComplete g
+
+-- the tokens of a rule's form are cut into a rule that says the form
+abbrev pub RuleIsCut : Type 0
+RuleIsCut = (items : List Item) (form : RuleForm) (spots : List Spot) → tokens spots ≡ rule_tokens form → AreRule items form spots
+
+-- the rules of a whole text say the forms of its rules
+abbrev pub RulesSayForms : Type 0
+RulesSayForms = (bytes : List ℕ) (n : ℕ) (text : IsWhole bytes n) → SayRules text.whole.rules (rules (items_of n bytes))
 
 -- where there is a state behind the tokens, some text goes on with them
 abbrev pub StateGoesOn : Type 0

@@ -26,6 +26,7 @@ pub mod GrammarText
 pub mod Tables
 pub mod Extents
 pub mod Reading
+pub mod SaidForms
 pub mod Laws
 pub mod PrintedLaws
 pub mod SpelledLaws

@@ -1,5 +1,5 @@
 //! Laws of the definitions. The functions do nothing: their contracts say them.
-ghost use Rattle.sel_grammar_text.specs.Laws.{GrammarIsOne, GrammarFaultIsOne, NotGrammarAndFault, SomeGrammarOrFault, SpelledIsLawful, StateGoesOn, NoStateStops, EndIsText, TextIsEnd};
+ghost use Rattle.sel_grammar_text.specs.Laws.{GrammarIsOne, GrammarFaultIsOne, NotGrammarAndFault, SomeGrammarOrFault, SpelledIsLawful, SpelledIsComplete, RuleIsCut, RulesSayForms, StateGoesOn, NoStateStops, EndIsText, TextIsEnd};
 
 /// A text spells at most one grammar, and has at most one fault. No text has both, and each has one of them.
 pub fn grammar_or_fault()
@@ -14,6 +14,20 @@ pub fn grammar_or_fault()
 /// with one operator without kids.
 pub fn spelled_is_lawful()
     ensures { SpelledIsLawful }
+{}
+
+/// Each grammar that a text spells has a rule, each of its nonterminals is the left side of one, and its
+/// templates name only kids that there are, and their result only in instructions, and don't begin with
+/// `?` or `#`.
+pub fn spelled_is_complete()
+    ensures { SpelledIsComplete }
+{}
+
+/// A rule of a text says what its form has: the left name, the names of the pattern in preorder, each
+/// with how many kids it has, and the tail.
+pub fn rules_say_their_forms()
+    ensures cut { RuleIsCut }
+    ensures whole { RulesSayForms }
 {}
 
 /// There is a state behind some tokens exactly where a text of the form goes on with them, and it is

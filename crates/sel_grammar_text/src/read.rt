@@ -2,6 +2,7 @@
 
 ghost use Rattle.std.specs.Prelude.{◌≡◌, ℕ, ◌+◌, ◌-◌, ◌<◌, ◌≤◌, ◌^◌, List, ◌++◌, length, take, IfOk, IfErr, OnOk};
 ghost use Rattle.std.specs.List.{AllByRecursion};
+ghost use Rattle.sel_grammar.specs.Complete.{IsComplete};
 ghost use Rattle.sel_grammar.specs.Lawful.{IsLawful};
 ghost use Rattle.sel_grammar_text.specs.Extents.{StandsAtItem, HasExtent};
 ghost use Rattle.sel_grammar_text.specs.GrammarText.{SpellsGrammar, GrammarRefusedFor};
@@ -139,6 +140,7 @@ pub fn read_grammar(alloc: Global, bytes: &[u8]) -> Result<Grammar, GrammarRefus
     requires short { length bytes.now < 4294967295 }
     ensures ok { IfOk result (λ grammar. SpellsGrammar bytes.now grammar) }
     ensures lawful { IfOk result (λ grammar. IsLawful grammar) }
+    ensures complete { IfOk result (λ grammar. IsComplete grammar) }
     ensures fault { IfErr result (λ refusal. GrammarRefusedFor bytes.now refusal) }
 {
     let mut marks = Vec::new(alloc);
