@@ -1,5 +1,5 @@
 -- Each grammar that a text spells has rules for its nonterminals, and lawful templates.
-use Rattle.std.proofs.Common.{◌≡◌, ℕ, suc, zero, ◌+◌, ◌<◌, List, [], ◌∷◌, ◌++◌, Option, Some, None, Bool, true, false, not, length, refl, ap, sym, ◌∙◌, subst, arith, cond, eqb, ◌||◌, ◌&&◌, append-nil, map}
+use Rattle.std.proofs.Common.{◌≡◌, ℕ, suc, zero, ◌+◌, ◌<◌, List, [], ◌∷◌, ◌++◌, Some, None, Bool, true, false, not, length, refl, ap, sym, ◌∙◌, subst, arith, cond, eqb, ◌||◌, ◌&&◌, append-nil, map}
 use Rattle.std.specs.Prelude.{slice_get, bytes_eq, option_map}
 use Rattle.std.specs.List.{flat_map, AllByRecursion}
 use Rattle.std.proofs.lemmas.List.{length-map, map-append}
@@ -7,7 +7,6 @@ use Rattle.std.proofs.lemmas.Option.{slice_get-map}
 use Rattle.std.proofs.Math.Numerals.{one-add}
 use Rattle.sel_grammar.specs.Complete.{HasLawfulTemplate, IsComplete}
 use Rattle.sel_grammar.specs.Fits as fits
-use Rattle.sel_grammar_text.specs.declared.pattern.PatternName.{PatternName}
 use Rattle.sel_grammar_text.specs.declared.pattern.PatternName.TheVariants as pattern
 use Rattle.sel_grammar_text.specs.Form.{Patterns, RuleForm}
 use Rattle.sel_grammar_text.specs.Items.{Word, TailText, OneLine, Burg, RuleText, Item, RuleItem}

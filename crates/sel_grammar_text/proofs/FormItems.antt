@@ -2,7 +2,7 @@
 use Rattle.std.proofs.Common.{◌≡◌, ℕ, ◌+◌, ◌-◌, ◌<◌, List, [], ◌∷◌, ◌++◌, Some, None, Bool, true, false, length, refl, ap, sym, ◌∙◌, arith, cond, eqb, append_assoc, append-nil, map}
 use Rattle.sel_grammar_text.specs.Tokens.{Token, Name, Quoted, Equals, Open, Close, Comma}
 use Rattle.sel_grammar_text.specs.Form.{Patterns, no_patterns, pattern, Side, below, beside, pattern_tokens, AmountForm, OneNumber, TwoNumbers, TailForm, OneLineForm, BurgForm, tail_tokens, RuleForm}
-use Rattle.sel_grammar_text.specs.Items.{Word, word, AmountText, TailText, OneLine, Burg}
+use Rattle.sel_grammar_text.specs.Items.{word, AmountText, TailText, OneLine, Burg}
 use Rattle.sel_grammar_text.specs.CostText.{cost_in}
 use Rattle.sel_grammar_text.proofs.Templates.{unequal}
 use Rattle.sel_grammar_text.specs.Spots.{Spot, tokens}

@@ -1,5 +1,5 @@
 -- A template that passes its checks names only kids that there are, and its result only in an instruction.
-use Rattle.std.proofs.Common.{◌≡◌, ℕ, suc, zero, ◌-◌, ◌<◌, ◌≤◌, ◌⊎◌, inl, inr, List, [], ◌∷◌, ◌++◌, Option, Some, None, Bool, true, false, length, refl, ap, sym, ◌∙◌, subst, arith, cond, eqb, ◌&&◌, ◌||◌}
+use Rattle.std.proofs.Common.{◌≡◌, ℕ, suc, zero, ◌-◌, ◌<◌, ◌⊎◌, inl, inr, List, [], ◌∷◌, Option, Some, None, Bool, true, false, length, refl, ap, sym, ◌∙◌, subst, arith, cond, eqb, ◌&&◌}
 use Rattle.std.specs.Prelude.{slice_get, codes, nat_le}
 use Rattle.std.specs.Char.{is_ascii_digit}
 use Rattle.std.proofs.lemmas.Bool.Decides.{eqb_tells}
@@ -10,7 +10,7 @@ use Rattle.sel_grammar.specs.declared.grammar.Part.TheVariants.{Text, Kid, Attri
 use Rattle.sel_grammar_text.specs.declared.template.TemplatePiece.{TemplatePiece}
 use Rattle.sel_grammar_text.specs.declared.template.TemplatePiece.TheVariants.{Byte, Sign, LoneSign}
 use Rattle.sel_grammar_text.specs.Checks.{begins_reserved, is_past_kid}
-use Rattle.sel_grammar_text.specs.Printing.{printed_byte, printed_template}
+use Rattle.sel_grammar_text.specs.Printing.{printed_template}
 use Rattle.sel_grammar_text.specs.TemplateText.{pieces, may_follow_sign, bad_sign, first_sign, ends_line, add_byte, sign_parts, parts_of, template_of}
 use Rattle.sel_grammar_text.proofs.PrintedTemplates.{plain, anywhere, ends_plainly, ends_so, parts_plainly, parts_so}
 

@@ -1,10 +1,10 @@
 -- A tail in which no number is too large gives a cost of small numbers.
-use Rattle.std.proofs.Common.{◌≡◌, ℕ, ◌<◌, ◌≤◌, Option, Some, None, Bool, true, false, refl, cond, arith}
+use Rattle.std.proofs.Common.{◌≡◌, ℕ, ◌≤◌, Option, Some, None, Bool, true, false, refl, arith}
 use Rattle.std.specs.Prelude.{nat_lt}
 use Rattle.std.specs.Str.Parse.{digits_value}
 use Rattle.sel_grammar.specs.declared.grammar.RuleCost.{RuleCost}
 use Rattle.sel_grammar.specs.Limits.{greatest_cost}
-use Rattle.sel_grammar_text.specs.Items.{Word, AmountText, CostText, NoCost, Amount, Ranged, TailText, OneLine, Burg}
+use Rattle.sel_grammar_text.specs.Items.{Word, AmountText, NoCost, Amount, Ranged, TailText, OneLine, Burg}
 use Rattle.sel_grammar_text.specs.Checks.{place_if, or_place, large_cost, large_bound, large_option, large_amount, large_amount_if_any, large_in_tail}
 use Rattle.sel_grammar_text.specs.Meaning.{number_or_0, amount_cost, amount_or_none, cost_of}
 

@@ -1,5 +1,5 @@
 -- What a rule says of its form: the names, the numbers of kids and the tail that its tokens have.
-use Rattle.std.specs.Prelude.{◌≡◌, ℕ, ◌+◌, List, [], ◌∷◌, ◌++◌, length, map, Option, Some, None}
+use Rattle.std.specs.Prelude.{◌≡◌, ℕ, ◌+◌, List, [], ◌∷◌, ◌++◌, length, map, Some, None}
 use Rattle.sel_grammar_text.specs.Form.{Patterns, no_patterns, pattern, AmountForm, OneNumber, TwoNumbers, TailForm, OneLineForm, BurgForm, RuleForm}
 use Rattle.sel_grammar_text.specs.Items.{Word, AmountText, TailText, OneLine, Burg, RuleText, Item, RuleItem}
 use Rattle.sel_grammar_text.specs.CostText.{cost_in}
