@@ -20,3 +20,4 @@ pub mod Subtrees
 pub mod Turns
 pub mod Widths
 pub mod WordBounds
+pub mod Telling

@@ -1,5 +1,5 @@
 -- What a node is labelled by, where the nodes before it have labels: its key, and what `label` asks of its caller.
-use Rattle.std.proofs.Common.{◌≡◌, ℕ, ◌⊎◌, inl, inr, ◌<◌, ◌≤◌, ◌<ℤ◌, ◌≤ℤ◌, ℤ, pos, ◌==◌, if◌then◌else◌, Bool, false, Option, Some, None, List, [], ◌∷◌, length, refl, ap, sym, ◌∙◌, subst, slice_get, arith}
+use Rattle.std.proofs.Common.{◌≡◌, ℕ, ◌⊎◌, inl, inr, ◌<◌, ◌≤◌, ◌<ℤ◌, ◌≤ℤ◌, ℤ, pos, ◌==◌, if◌then◌else◌, false, Option, Some, None, List, [], ◌∷◌, length, refl, ap, sym, ◌∙◌, subst, slice_get, arith}
 use Rattle.std.specs.Prelude.{neg_ℤ, ◌^◌}
 use Rattle.std.proofs.lemmas.Int.{ints}
 use Rattle.sel_grammar.specs.declared.grammar.Attribute.{Attribute}
@@ -13,16 +13,16 @@ use Rattle.sel_forest.specs.Valid.{IsOver, IsAttribute}
 use Rattle.sel_forest.proofs.Matching.{some_same}
 use Rattle.sel_range.specs.Classes.{class_of}
 use Rattle.sel_range.specs.Limits.{IsAttributeValue, least_number, greatest_number}
-use Rattle.sel_normal.specs.NormalForms.{NormalForm}
 use Rattle.sel_items.specs.declared.items.Items.{Items}
 use Rattle.sel_items.specs.declared.label.Label.{Label}
-use Rattle.sel_items.specs.Follows.{NodeKey, key_of}
+use Rattle.sel_items.specs.Automata.{Told}
+use Rattle.sel_items.specs.Follows.{key_of}
 use Rattle.sel_items.specs.ItemsOf.{IsKeyOf, attribute_number}
 use Rattle.sel_items.specs.Labels.{IsNumbered, AreNumbered, KidsAre, AreKidSets, IsClassOver, HasLawfulKids}
 use Rattle.sel_items.specs.Laws.{IsAcceptedForm}
 use Rattle.sel_items.specs.Tabled.{IsTabled}
 use Rattle.sel_items.proofs.KidSetLaws.{items_are_kid_sets}
-use Rattle.sel_label.specs.Labelling.{StandsBelow, LabelAt, IsOfNumber, AreHeldBelow, AreNumberedBelow}
+use Rattle.sel_label.specs.Labelling.{StandsBelow, LabelAt, IsOfNumber, AreHeldBelow, AreNumberedBelow, AreAllNumbered}
 use Rattle.sel_label.specs.Fronts.{IsNodeLabelled, AreLabelledTo}
 use Rattle.sel_label.proofs.Arities.{lawful_none, lawful_one, lawful_two}
 use Rattle.sel_label.proofs.Keys.{only_none, only_one, only_two}
@@ -54,29 +54,30 @@ root_value g (Node0 op a) h = attribute_value a h.1
 root_value g (Node1 op a t) h = attribute_value a h.1
 root_value g (Node2 op a t u) h = attribute_value a h.1
 
-module _ (g : Grammar) (normal : NormalForm) (nodes : List Node) (means : Label → Items → Type 0) (held : Items → Type 0) (known : NodeKey → Type 0) (used_up row_full : Bool) (labels : List Label) where
+module _ (g : Grammar) (nodes : List Node) (told : Told) (labels : List Label) where
   -- the call is the node's at i, whose tree is u
   pub record Fits (i : ℕ) (u : PlainTree) (asked : Asked) : Type 0 where
     pub kids : List Items
-    pub are : KidsAre means asked.first asked.second kids
-    pub only : (is : List Items) → KidsAre means asked.first asked.second is → is ≡ kids
+    pub are : KidsAre told.means asked.first asked.second kids
+    pub only : (is : List Items) → KidsAre told.means asked.first asked.second is → is ≡ kids
     pub key : IsKeyOf g u (key_of asked.operator asked.class kids)
-    pub sets : AreKidSets normal kids
-    pub over : IsClassOver normal asked.class asked.first
-    pub lawful : HasLawfulKids normal asked.operator asked.first asked.second
-    pub below : AreNumbered asked.first asked.second → AreHeldBelow g (IsOfNumber means held) u × AreNumberedBelow nodes labels i u
-    pub tabled : used_up ≡ false → IsTabled g u → AreNumbered asked.first asked.second
+    pub sets : AreKidSets told.normal kids
+    pub over : IsClassOver told.normal asked.class asked.first
+    pub lawful : HasLawfulKids told.normal asked.operator asked.first asked.second
+    pub below : AreNumbered asked.first asked.second → AreHeldBelow g (IsOfNumber told) u × AreNumberedBelow nodes labels i u
+    pub tabled : told.used_up ≡ false → IsTabled g u → AreNumbered asked.first asked.second
+    pub all : AreAllNumbered labels → AreNumbered asked.first asked.second
 
   -- what is asked for a node
   abbrev pub asked_of : Node → Asked
   asked_of node = record {
     operator = node.operator;
-    class = if node.kids == 0 then class_of normal.tests (attribute_number node.attribute) else 0;
+    class = if node.kids == 0 then class_of told.normal.tests (attribute_number node.attribute) else 0;
     first = if node.kids == 0 then None else slice_get labels node.left;
     second = if node.kids == 2 then slice_get labels node.right else None;
   }
 
-  module _ (accepted : IsAcceptedForm g normal) (one : (l : Label) (i j : Items) → means l i → means l j → i ≡ j) (labelled : AreLabelledTo g nodes means held known used_up row_full labels) where
+  module _ (accepted : IsAcceptedForm g told.normal) (one : (l : Label) (i j : Items) → told.means l i → told.means l j → i ≡ j) (labelled : AreLabelledTo g nodes told labels) where
     -- a node below a numbered kid's, or the kid itself
     branch : (at : ℕ) (t : PlainTree) (l : Label) → LabelAt labels at l → IsNumbered l → AreNumberedBelow nodes labels at t
         → (at' j : ℕ) (v : PlainTree) (m : Label) → at ≡ at' → ((at' ≡ j) × (t ≡ v)) ⊎ StandsBelow nodes at' t j v → LabelAt labels j m → IsNumbered m
@@ -104,67 +105,69 @@ module _ (g : Grammar) (normal : NormalForm) (nodes : List Node) (means : Label 
     none_fits i op a node over is kids at =
         subst (Fits i (Node0 op a))
         (same_asked made (asked_of node) (sym is)
-        (ap (λ x. class_of normal.tests (attribute_number x)) (sym at) ∙ ap (λ (k : ℕ). if k == 0 then class_of normal.tests (attribute_number node.attribute) else 0) (sym kids))
+        (ap (λ x. class_of told.normal.tests (attribute_number x)) (sym at) ∙ ap (λ (k : ℕ). if k == 0 then class_of told.normal.tests (attribute_number node.attribute) else 0) (sym kids))
         (ap (λ (k : ℕ). if k == 0 then None else slice_get labels node.left) (sym kids))
         (ap (λ (k : ℕ). if k == 2 then slice_get labels node.right else None) (sym kids)))
         (record {
           kids = [];
           are = tt;
-          only = only_none means one;
+          only = only_none told.means one;
           key = (refl, ap (λ ts. class_of ts (attribute_number a)) (accepted.form).tests, refl);
           sets = tt;
           over = (attribute_number a, attribute_value a over.1, refl);
-          lawful = lawful_none g normal accepted.lawful accepted.form op over.0;
+          lawful = lawful_none g told.normal accepted.lawful accepted.form op over.0;
           below = λ n. (tt, (λ j v m s. absurd s));
           tabled = λ e t. (tt, tt);
+          all = λ h. (tt, tt);
         })
       where
         made : Asked
-        made = record { operator = op; class = class_of normal.tests (attribute_number a); first = None; second = None }
+        made = record { operator = op; class = class_of told.normal.tests (attribute_number a); first = None; second = None }
 
     one_fits : (i op : ℕ) (a : Attribute) (t : PlainTree) (node : Node) → i ≤ length labels → IsOver g (Node1 op a t) → size (Node1 op a t) ≤ most_nodes
         → slice_get nodes i ≡ Some node → node.operator ≡ op → node.kids ≡ 1 → node.left < i → IsRootAt nodes node.left t → Fits i (Node1 op a t) (asked_of node)
     one_fits i op a t node few over small get is kids lt root = go (labelled node.left t (omega arith) root)
       where
-        go : (l : Label) × LabelAt labels node.left l × IsNodeLabelled g nodes means held known used_up row_full labels node.left t l → Fits i (Node1 op a t) (asked_of node)
+        go : (l : Label) × LabelAt labels node.left l × IsNodeLabelled g nodes told labels node.left t l → Fits i (Node1 op a t) (asked_of node)
         go (l, at, says) =
             subst (Fits i (Node1 op a t))
             (same_asked (record { operator = op; class = 0; first = Some l; second = None }) (asked_of node) (sym is)
-            (ap (λ (k : ℕ). if k == 0 then class_of normal.tests (attribute_number node.attribute) else 0) (sym kids))
+            (ap (λ (k : ℕ). if k == 0 then class_of told.normal.tests (attribute_number node.attribute) else 0) (sym kids))
             (sym at ∙ ap (λ (k : ℕ). if k == 0 then None else slice_get labels node.left) (sym kids))
             (ap (λ (k : ℕ). if k == 2 then slice_get labels node.right else None) (sym kids)))
             (record {
               kids = says.items ∷ [];
               are = says.meant;
-              only = only_one means one l says.items says.meant;
+              only = only_one told.means one l says.items says.meant;
               key = (refl, refl, (says.items, refl, says.is));
-              sets = (items_are_kid_sets g normal t says.items accepted (omega arith) says.is, tt);
+              sets = (items_are_kid_sets g told.normal t says.items accepted (omega arith) says.is, tt);
               over = refl;
-              lawful = lawful_one g normal accepted.lawful accepted.form op l over.0;
+              lawful = lawful_one g told.normal accepted.lawful accepted.form op l over.0;
               below = λ n. let x = says.numbered n.0 in (((says.items, says.is, x.0), x.1), below_one i op a t l node get at n.0 x.2);
               tabled = λ e h. (says.tabled e h.1, tt);
+              all = λ h. (h node.left l at, tt);
             })
 
     two_fit : (i op : ℕ) (a : Attribute) (t u : PlainTree) (node : Node) → i ≤ length labels → IsOver g (Node2 op a t u) → size (Node2 op a t u) ≤ most_nodes
         → slice_get nodes i ≡ Some node → node.operator ≡ op → node.kids ≡ 2 → node.left < i → node.right < i → IsRootAt nodes node.left t → IsRootAt nodes node.right u → Fits i (Node2 op a t u) (asked_of node)
     two_fit i op a t u node few over small get is kids lt lt' root root' = go (labelled node.left t (omega arith) root) (labelled node.right u (omega arith) root')
       where
-        go : (l : Label) × LabelAt labels node.left l × IsNodeLabelled g nodes means held known used_up row_full labels node.left t l
-            → (k : Label) × LabelAt labels node.right k × IsNodeLabelled g nodes means held known used_up row_full labels node.right u k → Fits i (Node2 op a t u) (asked_of node)
+        go : (l : Label) × LabelAt labels node.left l × IsNodeLabelled g nodes told labels node.left t l
+            → (k : Label) × LabelAt labels node.right k × IsNodeLabelled g nodes told labels node.right u k → Fits i (Node2 op a t u) (asked_of node)
         go (l, at, says) (k, at', says') =
             subst (Fits i (Node2 op a t u))
             (same_asked (record { operator = op; class = 0; first = Some l; second = Some k }) (asked_of node) (sym is)
-            (ap (λ (k : ℕ). if k == 0 then class_of normal.tests (attribute_number node.attribute) else 0) (sym kids))
+            (ap (λ (k : ℕ). if k == 0 then class_of told.normal.tests (attribute_number node.attribute) else 0) (sym kids))
             (sym at ∙ ap (λ (k : ℕ). if k == 0 then None else slice_get labels node.left) (sym kids))
             (sym at' ∙ ap (λ (k : ℕ). if k == 2 then slice_get labels node.right else None) (sym kids)))
             (record {
               kids = says.items ∷ says'.items ∷ [];
               are = (says.meant, says'.meant);
-              only = only_two means one l k says.items says'.items says.meant says'.meant;
+              only = only_two told.means one l k says.items says'.items says.meant says'.meant;
               key = (refl, refl, (says.items, says'.items, refl, says.is, says'.is));
-              sets = (items_are_kid_sets g normal t says.items accepted (omega arith) says.is, (items_are_kid_sets g normal u says'.items accepted (omega arith) says'.is, tt));
+              sets = (items_are_kid_sets g told.normal t says.items accepted (omega arith) says.is, (items_are_kid_sets g told.normal u says'.items accepted (omega arith) says'.is, tt));
               over = refl;
-              lawful = lawful_two g normal accepted.lawful accepted.form op l k over.0;
+              lawful = lawful_two g told.normal accepted.lawful accepted.form op l k over.0;
               below = λ n.
                   let x = says.numbered n.0 in
                   let y = says'.numbered n.1 in (
@@ -172,6 +175,7 @@ module _ (g : Grammar) (normal : NormalForm) (nodes : List Node) (means : Label 
                     below_two i op a t u l k node get at at' n.0 n.1 x.2 y.2,
                   );
               tabled = λ e h. (says.tabled e h.1, says'.tabled e h.2);
+              all = λ h. (h node.left l at, h node.right k at');
             })
 
     pub fits : (i : ℕ) (u : PlainTree) (node : Node) → i ≤ length labels → slice_get nodes i ≡ Some node → IsRootAt nodes i u → IsOver g u → size u ≤ most_nodes → Fits i u (asked_of node)

@@ -1,5 +1,5 @@
 -- What labels say stays, while an automaton learns more and more nodes get labels.
-use Rattle.std.proofs.Common.{◌≡◌, ℕ, ◌+◌, ◌<◌, ◌≤◌, ◌⊎◌, inl, inr, Bool, true, false, List, [], ◌∷◌, ◌++◌, length, refl, ap, sym, ◌∙◌, subst, arith}
+use Rattle.std.proofs.Common.{◌≡◌, ℕ, zero, suc, ◌+◌, ◌<◌, ◌≤◌, ◌⊎◌, inl, inr, Bool, true, false, Some, Result, Ok, List, [], ◌∷◌, ◌++◌, length, slice_get, refl, ap, sym, ◌∙◌, subst, arith}
 use Rattle.std.proofs.lemmas.List.{length_push}
 use Rattle.sel_grammar.specs.declared.grammar.Grammar.{Grammar}
 use Rattle.sel_grammar.specs.PlainTrees.{PlainTree, Node0, Node1, Node2}
@@ -10,11 +10,12 @@ use Rattle.sel_forest.proofs.Roots.{slice_get-left, slice_get-right}
 use Rattle.sel_items.specs.declared.items.Items.{Items}
 use Rattle.sel_items.specs.declared.label.Label.{Label}
 use Rattle.sel_items.specs.declared.label.Label.TheVariants.{Numbered}
-use Rattle.sel_items.specs.Automata.{StaysTrue, KeepsMeanings, KeepsMark}
+use Rattle.sel_items.specs.Automata.{Told, StaysTrue, KeepsMeanings, KeepsMark, Keeps}
 use Rattle.sel_items.specs.Follows.{NodeKey}
 use Rattle.sel_items.specs.ItemsOf.{IsKeyOf}
-use Rattle.sel_label.specs.Labelling.{StandsBelow, LabelAt, IsOfNumber, IsHeld, AreHeldBelow, AreNumberedBelow, AddsKeysOf, AddsHeldKeys, AddsNumberedKeys}
-use Rattle.sel_label.specs.Fronts.{IsNodeLabelled, AreLabelledTo, IsKeyBefore, AddsKeysBefore}
+use Rattle.sel_items.specs.Labels.{IsNumbered}
+use Rattle.sel_label.specs.Labelling.{StandsBelow, LabelAt, IsOfNumber, IsHeld, AreHeldBelow, AreNumberedBelow, AddsKeysOf, AddsHeldKeys, AddsNumberedKeys, AddsOfTree, AreAllNumbered}
+use Rattle.sel_label.specs.Fronts.{IsNodeLabelled, AreLabelledTo, IsKeyBefore, AddsKeysBefore, AddsBefore}
 
 -- a node below stands before
 under : (i j k : ℕ) (A B : Type 0) → k < i → ((k ≡ j) × A) ⊎ B → (B → j < k) → j < i
@@ -60,31 +61,30 @@ pub mark_back : (old new : Bool) → KeepsMark old new → new ≡ false → old
 mark_back false new h e = refl
 mark_back true new h e = sym (h refl) ∙ e
 
-pub number_more : (means means' : Label → Items → Type 0) (held held' : Items → Type 0) → KeepsMeanings means means' → StaysTrue held held' → StaysTrue (IsOfNumber means held) (IsOfNumber means' held')
-number_more means means' held held' km kh i (h, (n, m)) = (kh i h, (n, km (Numbered n) i m))
+pub number_more : (told told' : Told) → Keeps told told' → StaysTrue (IsOfNumber told) (IsOfNumber told')
+number_more told told' keeps i (h, (n, m)) = (keeps.held i h, (n, keeps.numbered n i m))
 
 module _ (g : Grammar) (nodes : List Node) where
-  module _ (means means' : Label → Items → Type 0) (held held' : Items → Type 0) (known known' : NodeKey → Type 0) (used_up used_up' row_full row_full' : Bool)
-      (km : KeepsMeanings means means') (kh : StaysTrue held held') (kk : StaysTrue known known') (ku : KeepsMark used_up used_up') (kr : KeepsMark row_full row_full') where
+  module _ (told told' : Told) (keeps : Keeps told told') (km : KeepsMeanings told.means told'.means) where
     pub node_more : (labels ys : List Label) (i : ℕ) (u : PlainTree) (l : Label) → IsRootAt nodes i u → i ≤ length labels
-        → IsNodeLabelled g nodes means held known used_up row_full labels i u l → IsNodeLabelled g nodes means' held' known' used_up' row_full' (labels ++ ys) i u l
+        → IsNodeLabelled g nodes told labels i u l → IsNodeLabelled g nodes told' (labels ++ ys) i u l
     node_more labels ys i u l root lt h = record {
       items = h.items;
       meant = km l h.items h.meant;
       is = h.is;
       numbered = λ n. let x = h.numbered n in (
-        number_more means means' held held' km kh h.items x.0,
-        held_below_more g (IsOfNumber means held) (IsOfNumber means' held') u (number_more means means' held held' km kh) x.1,
+        number_more told told' keeps h.items x.0,
+        held_below_more g (IsOfNumber told) (IsOfNumber told') u (number_more told told' keeps) x.1,
         numbered_below_more nodes labels ys i u root lt x.2,
       );
-      tabled = λ e t. h.tabled (mark_back used_up used_up' ku e) t;
-      known_key = λ e f t k is. kk k (h.known_key (mark_back used_up used_up' ku e) (mark_back row_full row_full' kr f) t k is);
+      tabled = λ e t. h.tabled (mark_back told.used_up told'.used_up keeps.used_up e) t;
+      known_key = λ e f t k is. keeps.known k (h.known_key (mark_back told.used_up told'.used_up keeps.used_up e) (mark_back told.row_full told'.row_full keeps.row_full f) t k is);
     }
 
     -- one label more
-    pub labels_more : (labels : List Label) (l : Label) → AreLabelledTo g nodes means held known used_up row_full labels
-        → ((u : PlainTree) → IsRootAt nodes (length labels) u → IsNodeLabelled g nodes means' held' known' used_up' row_full' (labels ++ l ∷ []) (length labels) u l)
-        → AreLabelledTo g nodes means' held' known' used_up' row_full' (labels ++ l ∷ [])
+    pub labels_more : (labels : List Label) (l : Label) → AreLabelledTo g nodes told labels
+        → ((u : PlainTree) → IsRootAt nodes (length labels) u → IsNodeLabelled g nodes told' (labels ++ l ∷ []) (length labels) u l)
+        → AreLabelledTo g nodes told' (labels ++ l ∷ [])
     labels_more labels l h new i u lt root = go (split i (length labels) (labels_long lt))
       where
         split : (k n : ℕ) → k < n + 1 → (k < n) ⊎ (k ≡ n)
@@ -94,14 +94,14 @@ module _ (g : Grammar) (nodes : List Node) where
         labels_long lt = subst (λ n. i < n) (length_push labels l) lt
 
         go : (i < length labels) ⊎ (i ≡ length labels)
-            → (m : Label) × LabelAt (labels ++ l ∷ []) i m × IsNodeLabelled g nodes means' held' known' used_up' row_full' (labels ++ l ∷ []) i u m
+            → (m : Label) × LabelAt (labels ++ l ∷ []) i m × IsNodeLabelled g nodes told' (labels ++ l ∷ []) i u m
         go (inl b) =
             let old = h i u b root in
             (old.0, slice_get-left labels (l ∷ []) i b ∙ old.1, node_more labels (l ∷ []) i u old.0 root (omega arith) old.2)
         go (inr q) = (
           l,
           slice_get-right labels (l ∷ []) 0 i (omega arith),
-          subst (λ x. IsNodeLabelled g nodes means' held' known' used_up' row_full' (labels ++ l ∷ []) x u l) (sym q) (new u (subst (λ x. IsRootAt nodes x u) q root)),
+          subst (λ x. IsNodeLabelled g nodes told' (labels ++ l ∷ []) x u l) (sym q) (new u (subst (λ x. IsRootAt nodes x u) q root)),
         )
 
   key_before : (H K : Items → Type 0) (labels ys : List Label) (n m : ℕ) (k : NodeKey) → StaysTrue H K → n ≤ m → n ≤ length labels + 1 → IsKeyBefore g H nodes labels n k → IsKeyBefore g K nodes (labels ++ ys) m k
@@ -154,3 +154,40 @@ module _ (g : Grammar) (nodes : List Node) where
   asked_pushed H K ls sl pushed l first old new f e q a b =
       subst (λ x. AddsKeysBefore g K nodes x (length x) first new) (sym q)
       (subst (λ n. AddsKeysBefore g K nodes (ls ++ l ∷ []) n first new) (sym (length_push ls l)) (asked_step H K ls sl (l ∷ []) first old new f e a b))
+
+  -- so what two steps added
+  pub adds_step : (first old new : Told) (ls sl ys : List Label) → Keeps old new → sl ≡ ls → AddsBefore g nodes ls (length ls) first old → AddsBefore g nodes sl (length sl + 1) old new
+      → AddsBefore g nodes (ls ++ ys) (length ls + 1) first new
+  adds_step first old new ls sl ys keeps e a b = record {
+    asked = asked_step (IsOfNumber old) (IsOfNumber new) ls sl ys first.asked old.asked new.asked (number_more old new keeps) e a.asked b.asked;
+    known = known_more first.known old.known new.known a.known b.known;
+  }
+
+  pub adds_pushed : (first old new : Told) (ls sl pushed : List Label) (l : Label) → Keeps old new → sl ≡ ls → pushed ≡ ls ++ l ∷ [] → AddsBefore g nodes ls (length ls) first old → AddsBefore g nodes sl (length sl + 1) old new
+      → AddsBefore g nodes pushed (length pushed) first new
+  adds_pushed first old new ls sl pushed l keeps e q a b = record {
+    asked = asked_pushed (IsOfNumber old) (IsOfNumber new) ls sl pushed l first.asked old.asked new.asked (number_more old new keeps) e q a.asked b.asked;
+    known = known_more first.known old.known new.known a.known b.known;
+  }
+
+  pub adds_whole : (first new : Told) (labels : List Label) (n : ℕ) → AddsBefore g nodes labels n first new → new.plain_labels ≤ length nodes → AddsOfTree g nodes first new
+  adds_whole first new labels n a few = record {
+    asked = held_keys (IsOfNumber new) (IsOfNumber new) labels n first.asked new.asked (λ i h. h) a.asked;
+    known = a.known;
+    plain_labels = few;
+  }
+
+pub all_pushed : (ls pushed : List Label) (l : Label) → pushed ≡ ls ++ l ∷ [] → IsNumbered l → AreAllNumbered ls → AreAllNumbered pushed
+all_pushed ls pushed l e n h = subst AreAllNumbered (sym e) (go ls h)
+  where
+    go : (xs : List Label) → AreAllNumbered xs → AreAllNumbered (xs ++ l ∷ [])
+    go [] h zero m at = subst IsNumbered (some_same at) n
+    go [] h (suc i) m at = absurd (let no : slice_get {X = Label} [] i ≡ Some m = at in cc)
+    go (x ∷ xs) h zero m at = h zero m at
+    go (x ∷ xs) h (suc i) m at = go xs (λ j k a. h (suc j) k a) i m at
+
+pub hit_numbered : {E : Type 0} (l : Label) (n : ℕ) → ◌≡◌ {A = Result Label E} (Ok l) (Ok (Numbered n)) → IsNumbered l
+hit_numbered l n e = subst IsNumbered (sym same) tt
+  where
+    same : l ≡ Numbered n
+    same = cc

@@ -1,5 +1,5 @@
 -- What the labels of a tree's nodes say.
-use Rattle.std.specs.Prelude.{◌≡◌, ℕ, ◌⊎◌, Bool, false, Some, List, length, slice_get}
+use Rattle.std.specs.Prelude.{◌≡◌, ◌≤◌, ℕ, ◌⊎◌, false, Some, List, length, slice_get}
 use Rattle.sel_grammar.specs.declared.grammar.Grammar.{Grammar}
 use Rattle.sel_grammar.specs.PlainTrees.{PlainTree, Node0, Node1, Node2}
 use Rattle.sel_forest.specs.declared.forest.Node.{Node}
@@ -7,6 +7,7 @@ use Rattle.sel_forest.specs.Places.{IsRootAt}
 use Rattle.sel_items.specs.declared.items.Items.{Items}
 use Rattle.sel_items.specs.declared.label.Label.{Label}
 use Rattle.sel_items.specs.declared.label.Label.TheVariants.{Numbered}
+use Rattle.sel_items.specs.Automata.{Told}
 use Rattle.sel_items.specs.Follows.{NodeKey}
 use Rattle.sel_items.specs.ItemsOf.{IsItemsOf, IsKeyOf}
 use Rattle.sel_items.specs.Labels.{IsNumbered}
@@ -34,8 +35,8 @@ abbrev pub IsHeld : Grammar → (Items → Type 0) → PlainTree → Type 0
 IsHeld g held t = (i : Items) × IsItemsOf g t i × held i
 
 -- the item set is held, and a numbered label means it
-abbrev pub IsOfNumber : (Label → Items → Type 0) → (Items → Type 0) → Items → Type 0
-IsOfNumber means held i = held i × ((n : ℕ) × means (Numbered n) i)
+abbrev pub IsOfNumber : Told → Items → Type 0
+IsOfNumber told i = told.held i × ((n : ℕ) × told.means (Numbered n) i)
 
 -- the item set of each node below the tree's root is
 abbrev pub AreHeldBelow : Grammar → (Items → Type 0) → PlainTree → Type 0
@@ -59,13 +60,13 @@ TabledAreNumbered g nodes labels = (i : ℕ) (u : PlainTree) (l : Label) → IsR
 abbrev pub TabledAreKnown : Grammar → List Node → (NodeKey → Type 0) → Type 0
 TabledAreKnown g nodes known = (i : ℕ) (u : PlainTree) (k : NodeKey) → IsRootAt nodes i u → IsTabled g u → IsKeyOf g u k → known k
 
--- What labels say of the nodes of a tree, where `means`, `held`, `known` and the marks are the automaton's behind the labelling.
-pub record AreLabelled (g : Grammar) (nodes : List Node) (means : Label → Items → Type 0) (held : Items → Type 0) (known : NodeKey → Type 0) (used_up row_full : Bool) (labels : List Label) : Type 0 where
+-- What labels say of the nodes of a tree, where `told` is told behind the labelling.
+pub record AreLabelled (g : Grammar) (nodes : List Node) (told : Told) (labels : List Label) : Type 0 where
   pub long : length labels ≡ length nodes
-  pub mean : LabelsMean g means nodes labels
-  pub numbered : NumberedAreHeld g held nodes labels
-  pub tabled : used_up ≡ false → TabledAreNumbered g nodes labels
-  pub known_keys : used_up ≡ false → row_full ≡ false → TabledAreKnown g nodes known
+  pub mean : LabelsMean g told.means nodes labels
+  pub numbered : NumberedAreHeld g told.held nodes labels
+  pub tabled : told.used_up ≡ false → TabledAreNumbered g nodes labels
+  pub known_keys : told.used_up ≡ false → told.row_full ≡ false → TabledAreKnown g nodes told.known
 
 -- the key is one of a node of the tree, below which all item sets are held
 abbrev pub IsAskedKey : Grammar → (Items → Type 0) → List Node → NodeKey → Type 0
@@ -82,3 +83,17 @@ AddsNumberedKeys g nodes labels old new = (k : NodeKey) → new k → old k ⊎ 
 -- each key that was added is one of a node of the tree
 abbrev pub AddsKeysOf : Grammar → List Node → (NodeKey → Type 0) → (NodeKey → Type 0) → Type 0
 AddsKeysOf g nodes old new = (k : NodeKey) → new k → old k ⊎ ((i : ℕ) × ((u : PlainTree) × IsRootAt nodes i u × IsKeyOf g u k))
+
+-- What labelling the tree adds to what is told: keys of its nodes alone are asked and known, those that are asked are of nodes below which all item sets are held and of numbers, and there are no more plain labels than nodes.
+pub record AddsOfTree (g : Grammar) (nodes : List Node) (old new : Told) : Type 0 where
+  pub asked : AddsHeldKeys g (IsOfNumber new) nodes old.asked new.asked
+  pub known : AddsKeysOf g nodes old.known new.known
+  pub plain_labels : new.plain_labels ≤ length nodes
+
+-- each label is numbered
+abbrev pub AreAllNumbered : List Label → Type 0
+AreAllNumbered labels = (i : ℕ) (l : Label) → LabelAt labels i l → IsNumbered l
+
+-- the key of each node is ready
+abbrev pub AreAllReady : Grammar → List Node → Told → Type 0
+AreAllReady g nodes told = (i : ℕ) (u : PlainTree) (k : NodeKey) → IsRootAt nodes i u → IsKeyOf g u k → told.ready k

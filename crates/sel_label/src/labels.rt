@@ -2,10 +2,10 @@
 ghost use Rattle.std.specs.Prelude.{◌≡◌, ◌+◌, ◌<◌, ◌≤◌, ◌^◌, ◌∷◌, ◌++◌, [], length, IfOk};
 ghost use Rattle.sel_grammar.specs.declared.grammar.Grammar.{Grammar};
 ghost use Rattle.sel_forest.specs.Valid.{IsValidTree};
-ghost use Rattle.sel_items.specs.Automata.{StaysTrue, KeepsMeanings, KeepsNumbered, KeepsMark};
+ghost use Rattle.sel_items.specs.Automata.{Grows, Keeps, IsHit};
 ghost use Rattle.sel_items.specs.Laws.{IsAcceptedForm};
-ghost use Rattle.sel_label.specs.Labelling.{AreLabelled, AddsHeldKeys, AddsNumberedKeys, AddsKeysOf, IsOfNumber};
-ghost use Rattle.sel_label.specs.Fronts.{AreLabelledTo, AddsKeysBefore};
+ghost use Rattle.sel_label.specs.Labelling.{AreLabelled, AddsNumberedKeys, AddsOfTree, AreAllNumbered, AreAllReady};
+ghost use Rattle.sel_label.specs.Fronts.{AreLabelledTo, AddsBefore};
 
 use crate::kids::{class_of_node, first_label, second_label};
 use sel_base::{List, NoMemory, Steps};
@@ -30,28 +30,18 @@ fn label_node<A: Automaton, L: Ledger>(
     labels: &[Label],
     steps: &mut Steps<L>,
 ) -> Result<Label, NoMemory>
-    requires normal { A.normal automaton.old ≡ normal.now }
-    requires labels { (g : Grammar) × IsAcceptedForm g normal.now × IsValidTree g tree.now
-        × AreLabelledTo g tree.now.nodes (A.means automaton.old) (A.held automaton.old) (A.known automaton.old) (A.used_up automaton.old) (A.row_full automaton.old) labels.now }
+    requires normal { (A.told automaton.old).normal ≡ normal.now }
+    requires labels { (g : Grammar) × IsAcceptedForm g normal.now × IsValidTree g tree.now × AreLabelledTo g tree.now.nodes (A.told automaton.old) labels.now }
     requires more { length labels.now < length tree.now.nodes }
-    requires room { A.plain_labels automaton.old < 2 ^ 32 }
-    ensures normal { A.normal automaton.new ≡ A.normal automaton.old }
+    requires room { (A.told automaton.old).plain_labels < 2 ^ 32 }
+    ensures fixed { A.fixed automaton.new ≡ A.fixed automaton.old }
     ensures labelled { IfOk result (λ l. (g : Grammar) → IsAcceptedForm g normal.now → IsValidTree g tree.now
-        → AreLabelledTo g tree.now.nodes (A.means automaton.old) (A.held automaton.old) (A.known automaton.old) (A.used_up automaton.old) (A.row_full automaton.old) labels.now
-        → AreLabelledTo g tree.now.nodes (A.means automaton.new) (A.held automaton.new) (A.known automaton.new) (A.used_up automaton.new) (A.row_full automaton.new) (labels.now ++ l ∷ [])) }
-    ensures asked { (g : Grammar) → IsAcceptedForm g normal.now → IsValidTree g tree.now
-        → AreLabelledTo g tree.now.nodes (A.means automaton.old) (A.held automaton.old) (A.known automaton.old) (A.used_up automaton.old) (A.row_full automaton.old) labels.now
-        → AddsKeysBefore g (IsOfNumber (A.means automaton.new) (A.held automaton.new)) tree.now.nodes labels.now (length labels.now + 1) (A.asked automaton.old) (A.asked automaton.new) }
-    ensures known { (g : Grammar) → IsAcceptedForm g normal.now → IsValidTree g tree.now
-        → AreLabelledTo g tree.now.nodes (A.means automaton.old) (A.held automaton.old) (A.known automaton.old) (A.used_up automaton.old) (A.row_full automaton.old) labels.now
-        → AddsKeysOf g tree.now.nodes (A.known automaton.old) (A.known automaton.new) }
-    ensures plain_labels { A.plain_labels automaton.new ≤ A.plain_labels automaton.old + 1 }
-    ensures keeps { KeepsMeanings (A.means automaton.old) (A.means automaton.new) }
-    ensures keeps_asked { StaysTrue (A.asked automaton.old) (A.asked automaton.new) }
-    ensures keeps_known { StaysTrue (A.known automaton.old) (A.known automaton.new) }
-    ensures keeps_held { StaysTrue (A.held automaton.old) (A.held automaton.new) }
-    ensures keeps_used_up { KeepsMark (A.used_up automaton.old) (A.used_up automaton.new) }
-    ensures keeps_row_full { KeepsMark (A.row_full automaton.old) (A.row_full automaton.new) }
+        → AreLabelledTo g tree.now.nodes (A.told automaton.old) labels.now → AreLabelledTo g tree.now.nodes (A.told automaton.new) (labels.now ++ l ∷ [])) }
+    ensures adds { (g : Grammar) → IsAcceptedForm g normal.now → IsValidTree g tree.now → AreLabelledTo g tree.now.nodes (A.told automaton.old) labels.now
+        → AddsBefore g tree.now.nodes labels.now (length labels.now + 1) (A.told automaton.old) (A.told automaton.new) }
+    ensures grows { Grows (A.told automaton.old) (A.told automaton.new) result }
+    ensures hit { (g : Grammar) → IsAcceptedForm g normal.now → IsValidTree g tree.now → AreLabelledTo g tree.now.nodes (A.told automaton.old) labels.now → AreAllNumbered labels.now
+        → AreAllReady g tree.now.nodes (A.told automaton.old) → IsHit (A.told automaton.old) (A.told automaton.new) result steps.old steps.new }
     ensures steps { steps.old ≤ steps.new }
 {
     let nodes = tree.nodes.as_slice();
@@ -74,23 +64,16 @@ pub fn label_tree<A: Automaton, L: Ledger>(
     tree: &Tree,
     steps: &mut Steps<L>,
 ) -> Result<Labels, NoMemory>
-    requires normal { A.normal automaton.old ≡ normal.now }
+    requires normal { (A.told automaton.old).normal ≡ normal.now }
     requires grammar { (g : Grammar) × IsAcceptedForm g normal.now × IsValidTree g tree.now }
-    ensures normal { A.normal automaton.new ≡ A.normal automaton.old }
-    ensures labelled { IfOk result (λ labels. (g : Grammar) → IsAcceptedForm g normal.now → IsValidTree g tree.now
-        → AreLabelled g tree.now.nodes (A.means automaton.new) (A.held automaton.new) (A.known automaton.new) (A.used_up automaton.new) (A.row_full automaton.new) labels.of) }
-    ensures asked { (g : Grammar) → IsAcceptedForm g normal.now → IsValidTree g tree.now → AddsHeldKeys g (A.held automaton.new) tree.now.nodes (A.asked automaton.old) (A.asked automaton.new) }
-    ensures asked_of_numbers { (g : Grammar) → IsAcceptedForm g normal.now → IsValidTree g tree.now
-        → AddsHeldKeys g (IsOfNumber (A.means automaton.new) (A.held automaton.new)) tree.now.nodes (A.asked automaton.old) (A.asked automaton.new) }
-    ensures asked_numbered { IfOk result (λ labels. (g : Grammar) → IsAcceptedForm g normal.now → IsValidTree g tree.now → AddsNumberedKeys g tree.now.nodes labels.of (A.asked automaton.old) (A.asked automaton.new)) }
-    ensures known { (g : Grammar) → IsAcceptedForm g normal.now → IsValidTree g tree.now → AddsKeysOf g tree.now.nodes (A.known automaton.old) (A.known automaton.new) }
-    ensures plain_labels { A.plain_labels automaton.new ≤ length tree.now.nodes }
-    ensures keeps_numbered { KeepsNumbered (A.means automaton.old) (A.means automaton.new) }
-    ensures keeps_asked { StaysTrue (A.asked automaton.old) (A.asked automaton.new) }
-    ensures keeps_known { StaysTrue (A.known automaton.old) (A.known automaton.new) }
-    ensures keeps_held { StaysTrue (A.held automaton.old) (A.held automaton.new) }
-    ensures keeps_used_up { KeepsMark (A.used_up automaton.old) (A.used_up automaton.new) }
-    ensures keeps_row_full { KeepsMark (A.row_full automaton.old) (A.row_full automaton.new) }
+    ensures fixed { A.fixed automaton.new ≡ A.fixed automaton.old }
+    ensures labelled { IfOk result (λ labels. (g : Grammar) → IsAcceptedForm g normal.now → IsValidTree g tree.now → AreLabelled g tree.now.nodes (A.told automaton.new) labels.of) }
+    ensures numbered { IfOk result (λ labels. (g : Grammar) → IsAcceptedForm g normal.now → IsValidTree g tree.now
+        → AddsNumberedKeys g tree.now.nodes labels.of (A.told automaton.old).asked (A.told automaton.new).asked) }
+    ensures adds { (g : Grammar) → IsAcceptedForm g normal.now → IsValidTree g tree.now → AddsOfTree g tree.now.nodes (A.told automaton.old) (A.told automaton.new) }
+    ensures keeps { Keeps (A.told automaton.old) (A.told automaton.new) }
+    ensures hit { (g : Grammar) → IsAcceptedForm g normal.now → IsValidTree g tree.now → AreAllReady g tree.now.nodes (A.told automaton.old)
+        → (steps.new ≡ steps.old) × IfOk result (λ labels. AreAllNumbered labels.of) }
     ensures steps { steps.old ≤ steps.new }
 {
     automaton.begin_tree();

@@ -1,5 +1,5 @@
 -- The walk's beginning at the root, and its end.
-use Rattle.std.proofs.Common.{◌≡◌, ℕ, ◌+◌, ◌-◌, ◌*◌, ◌<◌, ◌≤◌, inl, Option, Some, None, List, [], ◌∷◌, ◌++◌, length, refl, ap, sym, ◌∙◌, subst, arith, append-nil, ◌^◌, Bool, true, false, not, is_some}
+use Rattle.std.proofs.Common.{◌≡◌, ℕ, ◌-◌, ◌<◌, ◌≤◌, inl, Option, Some, None, List, [], ◌∷◌, ◌++◌, length, refl, ap, sym, ◌∙◌, subst, arith, append-nil, Bool, true, false, not, is_some}
 use Rattle.std.proofs.lemmas.Int.{ints}
 use Rattle.sel_grammar.specs.declared.grammar.Grammar.{Grammar}
 use Rattle.sel_grammar.specs.declared.grammar.Pattern.{Leaf}
@@ -22,7 +22,6 @@ use Rattle.sel_normal.specs.NormalForms.{NormalForm}
 use Rattle.sel_items.specs.declared.items.Item.{Item}
 use Rattle.sel_items.specs.declared.items.Items.{Items}
 use Rattle.sel_items.specs.declared.label.Label.{Label}
-use Rattle.sel_items.specs.Automata.{AreSame}
 use Rattle.sel_items.specs.Entries.{item_at}
 use Rattle.sel_items.specs.Laws.{IsAcceptedForm}
 use Rattle.sel_items.proofs.BestParts.{items_are_nodes}
@@ -103,10 +102,3 @@ pub some_of : (o : Option Item) (b : Bool) → is_some o ≡ not b → b ≡ fal
 some_of None true h k = cc
 some_of None false h k = cc
 some_of (Some item) b h k = (item, refl)
-
-pub AreSame-trans : {A : Type 0} (x y z : A → Type 0) → AreSame x y → AreSame y z → AreSame x z
-AreSame-trans x y z h k = ((λ a p. k.0 a (h.0 a p)), (λ a p. h.1 a (k.1 a p)))
-
--- what the measure falls by
-pub falls : (heavy light old new : ℕ) → light + 64 * old < heavy + 64 * new → new < 2 ^ 64 → 64 * (2 ^ 64 - new) + light < 64 * (2 ^ 64 - old) + heavy
-falls heavy light old new h k = omega arith

@@ -4,10 +4,7 @@ ghost use Rattle.sel_grammar.specs.PlainTrees.{PlainTree};
 ghost use Rattle.sel_forest.specs.Covers.{IsAnswer};
 ghost use Rattle.sel_forest.specs.Postorder.{IsPostorderOf};
 ghost use Rattle.sel_forest.specs.Valid.{IsValidTree};
-ghost use Rattle.sel_items.specs.declared.items.Items.{Items};
-ghost use Rattle.sel_items.specs.declared.label.Label.{Label};
-ghost use Rattle.sel_items.specs.Automata.{AreSame, KeepsMeanings};
-ghost use Rattle.sel_items.specs.Labels.{IsPlain};
+ghost use Rattle.sel_items.specs.Automata.{IsRead};
 ghost use Rattle.sel_items.specs.Laws.{IsAcceptedForm};
 ghost use Rattle.sel_reduce.specs.Labelled.{IsLabelling};
 
@@ -37,20 +34,13 @@ pub fn reduce<A: Automaton>(
     tree: &Tree,
     labels: &Labels,
 ) -> Result<Option<Cover>, NoMemory>
-    requires normal { A.normal automaton.old ≡ normal.now }
+    requires normal { (A.told automaton.old).normal ≡ normal.now }
     requires form { IsAcceptedForm grammar.now normal.now }
     requires tree { IsValidTree grammar.now tree.now }
-    requires labelled { IsLabelling grammar.now (A.means automaton.old) tree.now labels.now.of }
+    requires labelled { IsLabelling grammar.now (A.told automaton.old).means tree.now labels.now.of }
     ensures answer { IfOk result (λ answer. (t : PlainTree) → IsPostorderOf tree.now t → IsAnswer grammar.now t answer) }
-    ensures normal { A.normal automaton.new ≡ A.normal automaton.old }
-    ensures keeps { KeepsMeanings (A.means automaton.old) (A.means automaton.new) }
-    ensures plain { (l : Label) (i : Items) → IsPlain l → A.means automaton.new l i → A.means automaton.old l i }
-    ensures plain_labels { A.plain_labels automaton.new ≡ A.plain_labels automaton.old }
-    ensures same_asked { AreSame (A.asked automaton.old) (A.asked automaton.new) }
-    ensures same_known { AreSame (A.known automaton.old) (A.known automaton.new) }
-    ensures same_held { AreSame (A.held automaton.old) (A.held automaton.new) }
-    ensures same_used_up { A.used_up automaton.new ≡ A.used_up automaton.old }
-    ensures same_row_full { A.row_full automaton.new ≡ A.row_full automaton.old }
+    ensures fixed { A.fixed automaton.new ≡ A.fixed automaton.old }
+    ensures read { IsRead (A.told automaton.old) (A.told automaton.new) }
 {
     let nodes = tree.nodes.as_slice();
     let root = Goal {

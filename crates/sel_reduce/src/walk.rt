@@ -5,10 +5,8 @@ ghost use Rattle.sel_grammar.specs.SmallCosts.{IsSmall};
 ghost use Rattle.sel_normal.specs.declared.normal.NormalRule.{NormalRule};
 ghost use Rattle.sel_normal.specs.NormalForms.{normal_at};
 ghost use Rattle.sel_items.specs.declared.items.Items.{Items};
-ghost use Rattle.sel_items.specs.declared.label.Label.{Label};
-ghost use Rattle.sel_items.specs.Automata.{AreSame, KeepsMeanings};
+ghost use Rattle.sel_items.specs.Automata.{IsRead};
 ghost use Rattle.sel_items.specs.Entries.{item_at};
-ghost use Rattle.sel_items.specs.Labels.{IsPlain};
 ghost use Rattle.sel_reduce.specs.CostLimits.{most_cost};
 ghost use Rattle.sel_reduce.specs.Goals.{IsItemsAt, kid_goal, kid_goals, some_number, TakesRule};
 
@@ -30,18 +28,11 @@ pub struct Walk {
 
 /// The entry that the item set of the goal's node has for its nonterminal.
 pub fn entry_for<A: Automaton>(automaton: &mut A, labels: &Labels, goal: Goal) -> Option<Item>
-    requires items { (i : Items) × IsItemsAt (A.means automaton.old) labels.now.of goal.at i }
-    requires nonterminal { goal.nonterminal < (A.normal automaton.old).nonterminals }
-    ensures entry { (i : Items) → IsItemsAt (A.means automaton.old) labels.now.of goal.at i → result ≡ item_at i.entries goal.nonterminal }
-    ensures normal { A.normal automaton.new ≡ A.normal automaton.old }
-    ensures keeps { KeepsMeanings (A.means automaton.old) (A.means automaton.new) }
-    ensures plain { (l : Label) (i : Items) → IsPlain l → A.means automaton.new l i → A.means automaton.old l i }
-    ensures plain_labels { A.plain_labels automaton.new ≡ A.plain_labels automaton.old }
-    ensures same_asked { AreSame (A.asked automaton.old) (A.asked automaton.new) }
-    ensures same_known { AreSame (A.known automaton.old) (A.known automaton.new) }
-    ensures same_held { AreSame (A.held automaton.old) (A.held automaton.new) }
-    ensures same_used_up { A.used_up automaton.new ≡ A.used_up automaton.old }
-    ensures same_row_full { A.row_full automaton.new ≡ A.row_full automaton.old }
+    requires items { (i : Items) × IsItemsAt (A.told automaton.old).means labels.now.of goal.at i }
+    requires nonterminal { goal.nonterminal < (A.told automaton.old).normal.nonterminals }
+    ensures fixed { A.fixed automaton.new ≡ A.fixed automaton.old }
+    ensures entry { (i : Items) → IsItemsAt (A.told automaton.old).means labels.now.of goal.at i → result ≡ item_at i.entries goal.nonterminal }
+    ensures read { IsRead (A.told automaton.old) (A.told automaton.new) }
 {
     match labels.of.get(goal.at) {
         Some(label) => automaton.item(*label, goal.nonterminal),

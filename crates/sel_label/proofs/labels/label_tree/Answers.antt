@@ -1,23 +1,22 @@
 -- One node after the other gets its label, and keeps it.
-use Rattle.std.proofs.Common.{arith, ◌≡◌, ◌+◌, ◌++◌, ◌∷◌, [], length, ap, sym, ◌∙◌, subst}
+use Rattle.std.proofs.Common.{arith, rules, ◌≡◌, ◌≤◌, ◌+◌, ◌++◌, ◌∷◌, [], length, ap, sym, ◌∙◌, subst}
 use Rattle.std.proofs.lemmas.List.{length_push}
-use Rattle.sel_items.specs.declared.label.Label.TheVariants.{Numbered}
-use Rattle.sel_label.specs.Labelling.{IsOfNumber, AreLabelled, AddsNumberedKeys}
+use Rattle.sel_grammar.specs.declared.grammar.Grammar.{Grammar}
+use Rattle.sel_forest.specs.Valid.{IsValidTree}
+use Rattle.sel_items.specs.Automata.{IsHit}
+use Rattle.sel_items.specs.Laws.{IsAcceptedForm}
+use Rattle.sel_label.specs.Labelling.{AreLabelled, AddsNumberedKeys, IsOfNumber, AreAllNumbered, AreAllReady}
 use Rattle.sel_label.specs.Fronts.{AreLabelledTo}
-use Rattle.sel_label.proofs.Growing.{number_more, known_more, held_keys, numbered_keys, asked_step, asked_pushed}
+use Rattle.sel_items.proofs.Telling.{keeps_then}
+use Rattle.sel_label.proofs.Growing.{numbered_keys, adds_step, adds_pushed, adds_whole, all_pushed, hit_numbered}
 use Rattle.sel_label.proofs.NodeTrees.{valid_few}
 use Rattle.sel_label.proofs.Whole.{whole}
 use Rattle.sel_label.proofs.labels.label_tree.Goals as goal
 
 pub label_node-requires-clause-labels : goal.label_node-requires-clause-labels
 label_node-requires-clause-labels g c =
-    let A = g.A.Automaton in
-    let i = c.loop-at.invariant in
-    let s = c.loop-at.automaton in
-    let ls = c.loop-at.labels.items in
-    let nodes = c.args.tree.now.nodes in
     let (h, accepted, valid) = c.requires.grammar in
-    (h, accepted, valid, (subst (λ x. AreLabelledTo h nodes (A.means s) (A.held s) (A.known s) (A.used_up s) (A.row_full s) x) (sym c.as_slice.ensures.value) (i.labelled h accepted valid)))
+    (h, accepted, valid, subst (AreLabelledTo h c.args.tree.now.nodes (g.A.Automaton.told c.loop-at.automaton)) (sym c.as_slice.ensures.value) (c.loop-at.invariant.labelled h accepted valid))
 
 pub label_node-requires-clause-room : goal.label_node-requires-clause-room
 label_node-requires-clause-room g c =
@@ -28,148 +27,112 @@ label_node-requires-clause-room g c =
     let count = c.len-count.ensures in
     omega arith
 
-pub returns-in_err-label-clause-asked : goal.returns-in_err-label-clause-asked
-returns-in_err-label-clause-asked g c = λ h accepted valid.
-    let A = g.A.Automaton in
+pub returns-in_err-label-clause-adds : goal.returns-in_err-label-clause-adds
+returns-in_err-label-clause-adds g c = λ h accepted valid.
+    let old = g.A.Automaton.told c.args.automaton.now in
+    let s = g.A.Automaton.told c.loop-at.automaton in
+    let t = g.A.Automaton.told c.label_node.new.automaton in
     let i = c.loop-at.invariant in
-    let s = c.loop-at.automaton in
+    let e = c.label_node.ensures in
     let ls = c.loop-at.labels.items in
     let nodes = c.args.tree.now.nodes in
-    let t = c.label_node.new.automaton in
-    let e = c.label_node.ensures in
-    held_keys h nodes (IsOfNumber (A.means t) (A.held t)) (A.held t) (ls ++ []) (length ls + 1) (A.asked c.args.automaton.now) (A.asked t) (λ x y. y.0)
-    (asked_step h nodes (IsOfNumber (A.means s) (A.held s)) (IsOfNumber (A.means t) (A.held t)) ls c.as_slice.result.now [] (A.asked c.args.automaton.now) (A.asked s) (A.asked t) (number_more (A.means s) (A.means t) (A.held s) (A.held t) e.keeps e.keeps_held) c.as_slice.ensures.value (i.asked h accepted valid)
-    (e.asked h accepted valid (subst (λ x. AreLabelledTo h nodes (A.means s) (A.held s) (A.known s) (A.used_up s) (A.row_full s) x) (sym c.as_slice.ensures.value) (i.labelled h accepted valid))))
+    let labelled : (h : Grammar) → IsAcceptedForm h c.args.normal.now → IsValidTree h c.args.tree.now → AreLabelledTo h nodes s c.as_slice.result.now =
+    λ h accepted valid. subst (AreLabelledTo h nodes s) (sym c.as_slice.ensures.value) (i.labelled h accepted valid) in
+    let few : t.plain_labels ≤ length nodes = (let x = e.grows.plain_labels in let y = i.plain_labels in let z = c.loop-at-test.true in let w = c.len-count.ensures in omega arith) in
+    adds_whole h nodes old t (ls ++ []) (length ls + 1) (adds_step h nodes old s t ls c.as_slice.result.now [] e.grows.keeps c.as_slice.ensures.value (i.adds h accepted valid) (e.adds h accepted valid (labelled h accepted valid))) few
 
-pub returns-in_err-label-clause-asked_of_numbers : goal.returns-in_err-label-clause-asked_of_numbers
-returns-in_err-label-clause-asked_of_numbers g c = λ h accepted valid.
-    let A = g.A.Automaton in
+pub returns-in_err-label-clause-hit : goal.returns-in_err-label-clause-hit
+returns-in_err-label-clause-hit g c = λ h accepted valid ready.
+    let old = g.A.Automaton.told c.args.automaton.now in
+    let s = g.A.Automaton.told c.loop-at.automaton in
+    let t = g.A.Automaton.told c.label_node.new.automaton in
     let i = c.loop-at.invariant in
-    let s = c.loop-at.automaton in
+    let e = c.label_node.ensures in
     let ls = c.loop-at.labels.items in
     let nodes = c.args.tree.now.nodes in
-    let t = c.label_node.new.automaton in
-    let e = c.label_node.ensures in
-    held_keys h nodes (IsOfNumber (A.means t) (A.held t)) (IsOfNumber (A.means t) (A.held t)) (ls ++ []) (length ls + 1) (A.asked c.args.automaton.now) (A.asked t) (λ x y. y)
-    (asked_step h nodes (IsOfNumber (A.means s) (A.held s)) (IsOfNumber (A.means t) (A.held t)) ls c.as_slice.result.now [] (A.asked c.args.automaton.now) (A.asked s) (A.asked t) (number_more (A.means s) (A.means t) (A.held s) (A.held t) e.keeps e.keeps_held) c.as_slice.ensures.value (i.asked h accepted valid)
-    (e.asked h accepted valid (subst (λ x. AreLabelledTo h nodes (A.means s) (A.held s) (A.known s) (A.used_up s) (A.row_full s) x) (sym c.as_slice.ensures.value) (i.labelled h accepted valid))))
+    let labelled : (h : Grammar) → IsAcceptedForm h c.args.normal.now → IsValidTree h c.args.tree.now → AreLabelledTo h nodes s c.as_slice.result.now =
+    λ h accepted valid. subst (AreLabelledTo h nodes s) (sym c.as_slice.ensures.value) (i.labelled h accepted valid) in
+    let hit : (h : Grammar) → IsAcceptedForm h c.args.normal.now → IsValidTree h c.args.tree.now → AreAllReady h nodes old → IsHit s t c.label_node.result c.loop-at.steps c.label_node.new.steps =
+    λ h accepted valid ready. let x = i.hit h accepted valid ready in e.hit h accepted valid (labelled h accepted valid) (subst AreAllNumbered (sym c.as_slice.ensures.value) x.1) x.2 in
+    ((hit h accepted valid ready).no_step ∙ (i.hit h accepted valid ready).0, search rules)
 
-pub returns-in_err-label-clause-known : goal.returns-in_err-label-clause-known
-returns-in_err-label-clause-known g c = λ h accepted valid.
-    let A = g.A.Automaton in
+pub returns-in_err-push-clause-adds : goal.returns-in_err-push-clause-adds
+returns-in_err-push-clause-adds g c = λ h accepted valid.
+    let old = g.A.Automaton.told c.args.automaton.now in
+    let s = g.A.Automaton.told c.loop-at.automaton in
+    let t = g.A.Automaton.told c.label_node.new.automaton in
     let i = c.loop-at.invariant in
-    let s = c.loop-at.automaton in
+    let e = c.label_node.ensures in
     let ls = c.loop-at.labels.items in
     let nodes = c.args.tree.now.nodes in
-    let t = c.label_node.new.automaton in
-    let e = c.label_node.ensures in
-    known_more h nodes (A.known c.args.automaton.now) (A.known s) (A.known t) (i.known h accepted valid)
-    (e.known h accepted valid (subst (λ x. AreLabelledTo h nodes (A.means s) (A.held s) (A.known s) (A.used_up s) (A.row_full s) x) (sym c.as_slice.ensures.value) (i.labelled h accepted valid)))
+    let labelled : (h : Grammar) → IsAcceptedForm h c.args.normal.now → IsValidTree h c.args.tree.now → AreLabelledTo h nodes s c.as_slice.result.now =
+    λ h accepted valid. subst (AreLabelledTo h nodes s) (sym c.as_slice.ensures.value) (i.labelled h accepted valid) in
+    let few : t.plain_labels ≤ length nodes = (let x = e.grows.plain_labels in let y = i.plain_labels in let z = c.loop-at-test.true in let w = c.len-count.ensures in omega arith) in
+    adds_whole h nodes old t (ls ++ []) (length ls + 1) (adds_step h nodes old s t ls c.as_slice.result.now [] e.grows.keeps c.as_slice.ensures.value (i.adds h accepted valid) (e.adds h accepted valid (labelled h accepted valid))) few
 
-pub returns-in_err-push-clause-asked : goal.returns-in_err-push-clause-asked
-returns-in_err-push-clause-asked g c = λ h accepted valid.
-    let A = g.A.Automaton in
+pub returns-in_err-push-clause-hit : goal.returns-in_err-push-clause-hit
+returns-in_err-push-clause-hit g c = λ h accepted valid ready.
+    let old = g.A.Automaton.told c.args.automaton.now in
+    let s = g.A.Automaton.told c.loop-at.automaton in
+    let t = g.A.Automaton.told c.label_node.new.automaton in
     let i = c.loop-at.invariant in
-    let s = c.loop-at.automaton in
+    let e = c.label_node.ensures in
     let ls = c.loop-at.labels.items in
     let nodes = c.args.tree.now.nodes in
-    let t = c.label_node.new.automaton in
-    let e = c.label_node.ensures in
-    held_keys h nodes (IsOfNumber (A.means t) (A.held t)) (A.held t) (ls ++ []) (length ls + 1) (A.asked c.args.automaton.now) (A.asked t) (λ x y. y.0)
-    (asked_step h nodes (IsOfNumber (A.means s) (A.held s)) (IsOfNumber (A.means t) (A.held t)) ls c.as_slice.result.now [] (A.asked c.args.automaton.now) (A.asked s) (A.asked t) (number_more (A.means s) (A.means t) (A.held s) (A.held t) e.keeps e.keeps_held) c.as_slice.ensures.value (i.asked h accepted valid)
-    (e.asked h accepted valid (subst (λ x. AreLabelledTo h nodes (A.means s) (A.held s) (A.known s) (A.used_up s) (A.row_full s) x) (sym c.as_slice.ensures.value) (i.labelled h accepted valid))))
-
-pub returns-in_err-push-clause-asked_of_numbers : goal.returns-in_err-push-clause-asked_of_numbers
-returns-in_err-push-clause-asked_of_numbers g c = λ h accepted valid.
-    let A = g.A.Automaton in
-    let i = c.loop-at.invariant in
-    let s = c.loop-at.automaton in
-    let ls = c.loop-at.labels.items in
-    let nodes = c.args.tree.now.nodes in
-    let t = c.label_node.new.automaton in
-    let e = c.label_node.ensures in
-    held_keys h nodes (IsOfNumber (A.means t) (A.held t)) (IsOfNumber (A.means t) (A.held t)) (ls ++ []) (length ls + 1) (A.asked c.args.automaton.now) (A.asked t) (λ x y. y)
-    (asked_step h nodes (IsOfNumber (A.means s) (A.held s)) (IsOfNumber (A.means t) (A.held t)) ls c.as_slice.result.now [] (A.asked c.args.automaton.now) (A.asked s) (A.asked t) (number_more (A.means s) (A.means t) (A.held s) (A.held t) e.keeps e.keeps_held) c.as_slice.ensures.value (i.asked h accepted valid)
-    (e.asked h accepted valid (subst (λ x. AreLabelledTo h nodes (A.means s) (A.held s) (A.known s) (A.used_up s) (A.row_full s) x) (sym c.as_slice.ensures.value) (i.labelled h accepted valid))))
-
-pub returns-in_err-push-clause-known : goal.returns-in_err-push-clause-known
-returns-in_err-push-clause-known g c = λ h accepted valid.
-    let A = g.A.Automaton in
-    let i = c.loop-at.invariant in
-    let s = c.loop-at.automaton in
-    let ls = c.loop-at.labels.items in
-    let nodes = c.args.tree.now.nodes in
-    let t = c.label_node.new.automaton in
-    let e = c.label_node.ensures in
-    known_more h nodes (A.known c.args.automaton.now) (A.known s) (A.known t) (i.known h accepted valid)
-    (e.known h accepted valid (subst (λ x. AreLabelledTo h nodes (A.means s) (A.held s) (A.known s) (A.used_up s) (A.row_full s) x) (sym c.as_slice.ensures.value) (i.labelled h accepted valid)))
+    let labelled : (h : Grammar) → IsAcceptedForm h c.args.normal.now → IsValidTree h c.args.tree.now → AreLabelledTo h nodes s c.as_slice.result.now =
+    λ h accepted valid. subst (AreLabelledTo h nodes s) (sym c.as_slice.ensures.value) (i.labelled h accepted valid) in
+    let hit : (h : Grammar) → IsAcceptedForm h c.args.normal.now → IsValidTree h c.args.tree.now → AreAllReady h nodes old → IsHit s t c.label_node.result c.loop-at.steps c.label_node.new.steps =
+    λ h accepted valid ready. let x = i.hit h accepted valid ready in e.hit h accepted valid (labelled h accepted valid) (subst AreAllNumbered (sym c.as_slice.ensures.value) x.1) x.2 in
+    ((hit h accepted valid ready).no_step ∙ (i.hit h accepted valid ready).0, search rules)
 
 pub loop-at-preserved : goal.loop-at-preserved
 loop-at-preserved g c =
-    let A = g.A.Automaton in
+    let old = g.A.Automaton.told c.args.automaton.now in
+    let s = g.A.Automaton.told c.loop-at.automaton in
+    let t = g.A.Automaton.told c.label_node.new.automaton in
     let i = c.loop-at.invariant in
-    let s = c.loop-at.automaton in
+    let e = c.label_node.ensures in
     let ls = c.loop-at.labels.items in
     let nodes = c.args.tree.now.nodes in
-    let t = c.label_node.new.automaton in
-    let e = c.label_node.ensures in
+    let labelled : (h : Grammar) → IsAcceptedForm h c.args.normal.now → IsValidTree h c.args.tree.now → AreLabelledTo h nodes s c.as_slice.result.now =
+    λ h accepted valid. subst (AreLabelledTo h nodes s) (sym c.as_slice.ensures.value) (i.labelled h accepted valid) in
     let l = c.in_ok-label.label in
     let pushed : c.push.new.self.items ≡ ls ++ l ∷ [] = c.in_ok-push.ensures.items in
     record {
-      normal = e.normal ∙ i.normal;
+      fixed = e.fixed ∙ i.fixed;
       long = ap length pushed ∙ length_push ls l ∙ ap (λ n. n + 1) i.long;
       labelled = λ h accepted valid.
-          subst (λ x. AreLabelledTo h nodes (A.means t) (A.held t) (A.known t) (A.used_up t) (A.row_full t) x) (ap (λ x. x ++ l ∷ []) c.as_slice.ensures.value ∙ sym pushed)
-          (c.in_ok-label.ensures.labelled h accepted valid (subst (λ x. AreLabelledTo h nodes (A.means s) (A.held s) (A.known s) (A.used_up s) (A.row_full s) x) (sym c.as_slice.ensures.value) (i.labelled h accepted valid)));
-      asked = λ h accepted valid.
-          asked_pushed h nodes (IsOfNumber (A.means s) (A.held s)) (IsOfNumber (A.means t) (A.held t)) ls c.as_slice.result.now c.push.new.self.items l (A.asked c.args.automaton.now) (A.asked s) (A.asked t) (number_more (A.means s) (A.means t) (A.held s) (A.held t) e.keeps e.keeps_held) c.as_slice.ensures.value pushed
-          (i.asked h accepted valid) (e.asked h accepted valid (subst (λ x. AreLabelledTo h nodes (A.means s) (A.held s) (A.known s) (A.used_up s) (A.row_full s) x) (sym c.as_slice.ensures.value) (i.labelled h accepted valid)));
-      known = λ h accepted valid. known_more h nodes (A.known c.args.automaton.now) (A.known s) (A.known t) (i.known h accepted valid)
-          (e.known h accepted valid (subst (λ x. AreLabelledTo h nodes (A.means s) (A.held s) (A.known s) (A.used_up s) (A.row_full s) x) (sym c.as_slice.ensures.value) (i.labelled h accepted valid)));
-      plain_labels = (let x = i.plain_labels in let y = e.plain_labels in omega arith);
-      keeps_numbered = λ n x m. e.keeps (Numbered n) x (i.keeps_numbered n x m);
-      keeps_asked = λ k x. e.keeps_asked k (i.keeps_asked k x);
-      keeps_known = λ k x. e.keeps_known k (i.keeps_known k x);
-      keeps_held = λ k x. e.keeps_held k (i.keeps_held k x);
-      keeps_used_up = λ x. e.keeps_used_up (i.keeps_used_up x);
-      keeps_row_full = λ x. e.keeps_row_full (i.keeps_row_full x);
+          subst (AreLabelledTo h nodes t) (ap (λ x. x ++ l ∷ []) c.as_slice.ensures.value ∙ sym pushed) (c.in_ok-label.ensures.labelled h accepted valid (labelled h accepted valid));
+      adds = λ h accepted valid. adds_pushed h nodes old s t ls c.as_slice.result.now c.push.new.self.items l e.grows.keeps c.as_slice.ensures.value pushed (i.adds h accepted valid) (e.adds h accepted valid (labelled h accepted valid));
+      plain_labels = (let x = i.plain_labels in let y = e.grows.plain_labels in omega arith);
+      keeps = keeps_then old s t i.keeps e.grows.keeps;
+      hit = λ h accepted valid ready.
+          let x = i.hit h accepted valid ready in
+          let y = c.in_ok-label.ensures.hit h accepted valid (labelled h accepted valid) (subst AreAllNumbered (sym c.as_slice.ensures.value) x.1) x.2 in
+          (y.no_step ∙ x.0, all_pushed ls c.push.new.self.items l pushed (hit_numbered l y.number y.label) x.1, λ n u k root is. y.ready k (x.2 n u k root is));
       steps = (let x = i.steps in let y = e.steps in omega arith);
     }
 
 pub returns-clause-labelled : goal.returns-clause-labelled
 returns-clause-labelled g c = λ h accepted valid.
-    let A = g.A.Automaton in
-    let i = c.loop-at.invariant in
-    let s = c.loop-at.automaton in
+    let s = g.A.Automaton.told c.loop-at.automaton in
     let ls = c.loop-at.labels.items in
     let nodes = c.args.tree.now.nodes in
-    let long : length ls ≡ length nodes = (let x = i.long in let y = c.loop-at-test.false in let z = c.loop-at.auto._at-end in let w = c.len-count.ensures in omega arith) in
-    subst (λ x. AreLabelled h nodes (A.means s) (A.held s) (A.known s) (A.used_up s) (A.row_full s) x) (sym c.from_vec.ensures)
-    (whole h nodes (A.means s) (A.held s) (A.known s) (A.used_up s) (A.row_full s) ls long (i.labelled h accepted valid))
+    let long : length ls ≡ length nodes = (let x = c.loop-at.invariant.long in let y = c.loop-at-test.false in let z = c.loop-at.auto._at-end in let w = c.len-count.ensures in omega arith) in
+    subst (AreLabelled h nodes s) (sym c.from_vec.ensures) (whole h nodes s ls long (c.loop-at.invariant.labelled h accepted valid))
 
-pub returns-clause-asked : goal.returns-clause-asked
-returns-clause-asked g c = λ h accepted valid.
-    let A = g.A.Automaton in
-    let i = c.loop-at.invariant in
-    let s = c.loop-at.automaton in
+pub returns-clause-numbered : goal.returns-clause-numbered
+returns-clause-numbered g c = λ h accepted valid.
+    let old = g.A.Automaton.told c.args.automaton.now in
+    let s = g.A.Automaton.told c.loop-at.automaton in
     let ls = c.loop-at.labels.items in
     let nodes = c.args.tree.now.nodes in
-    held_keys h nodes (IsOfNumber (A.means s) (A.held s)) (A.held s) ls (length ls) (A.asked c.args.automaton.now) (A.asked s) (λ x y. y.0) (i.asked h accepted valid)
+    subst (λ x. AddsNumberedKeys h nodes x old.asked s.asked) (sym c.from_vec.ensures) (numbered_keys h nodes (IsOfNumber s) ls (length ls) old.asked s.asked (c.loop-at.invariant.adds h accepted valid).asked)
 
-pub returns-clause-asked_of_numbers : goal.returns-clause-asked_of_numbers
-returns-clause-asked_of_numbers g c = λ h accepted valid.
-    let A = g.A.Automaton in
-    let i = c.loop-at.invariant in
-    let s = c.loop-at.automaton in
+pub returns-clause-adds : goal.returns-clause-adds
+returns-clause-adds g c = λ h accepted valid.
+    let old = g.A.Automaton.told c.args.automaton.now in
+    let s = g.A.Automaton.told c.loop-at.automaton in
     let ls = c.loop-at.labels.items in
     let nodes = c.args.tree.now.nodes in
-    held_keys h nodes (IsOfNumber (A.means s) (A.held s)) (IsOfNumber (A.means s) (A.held s)) ls (length ls) (A.asked c.args.automaton.now) (A.asked s) (λ x y. y) (i.asked h accepted valid)
-
-pub returns-clause-asked_numbered : goal.returns-clause-asked_numbered
-returns-clause-asked_numbered g c = λ h accepted valid.
-    let A = g.A.Automaton in
-    let i = c.loop-at.invariant in
-    let s = c.loop-at.automaton in
-    let ls = c.loop-at.labels.items in
-    let nodes = c.args.tree.now.nodes in
-    subst (λ x. AddsNumberedKeys h nodes x (A.asked c.args.automaton.now) (A.asked s)) (sym c.from_vec.ensures) (numbered_keys h nodes (IsOfNumber (A.means s) (A.held s)) ls (length ls) (A.asked c.args.automaton.now) (A.asked s) (i.asked h accepted valid))
+    adds_whole h nodes old s ls (length ls) (c.loop-at.invariant.adds h accepted valid) (let x = c.loop-at.invariant.plain_labels in let z = c.loop-at.auto._at-end in let w = c.len-count.ensures in omega arith)
