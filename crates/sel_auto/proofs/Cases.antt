@@ -5,7 +5,8 @@ use Rattle.sel_items.specs.declared.label.Label.{Label}
 use Rattle.sel_auto.specs.declared.key.StateKey.{StateKey}
 use Rattle.sel_auto.specs.Keys.{numbered_key}
 use Rattle.sel_auto.specs.Tables.{Tables, IsKept, with_evaluation}
-use Rattle.sel_auto.specs.Answers.{FollowsKids, IsFound, IsAdded, IsUnnumbered, IsHit, IsMissed, IsOverPlain, IsAnswerBy, IsAnswer}
+use Rattle.sel_auto.specs.Answers.{IsFound, IsAdded, IsUnnumbered, IsHit, IsMissed, IsOverPlain, IsAnswerBy, IsAnswer}
+use Rattle.sel_auto.specs.TableChanges.{FollowsKids}
 
 module _ (t new : Tables) (before after operator class : ℕ) (a b : Option Label) (l : Label) where
   pub record Missed (key : StateKey) (items : Items) : Type 0 where

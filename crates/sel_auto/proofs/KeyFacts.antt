@@ -9,14 +9,15 @@ use Rattle.sel_items.specs.KidSets.{kid_sets}
 use Rattle.sel_items.specs.Labels.{KidsAre}
 use Rattle.sel_auto.specs.declared.key.StateKey.{StateKey}
 use Rattle.sel_auto.specs.Keys.{numbered_key}
-use Rattle.sel_auto.specs.Tables.{Tables, Means, node_key, IsStateNumber, IsTransition}
-use Rattle.sel_auto.specs.Answers.{FollowsKids}
+use Rattle.sel_auto.specs.Tables.{Tables, Means, node_key, AreInOrder, IsStateNumber, IsTransition}
+use Rattle.sel_auto.specs.TableChanges.{FollowsKids}
 use Rattle.sel_auto.proofs.Growth.{some_same, get_last}
 use Rattle.sel_auto.proofs.Lawful.{IsStateNumber-grown, node_key-grown}
 
 pub record IsKeyOfKids (t : Tables) (operator class : ℕ) (kids : List Items) (key : StateKey) : Type 0 where
   pub first : IsStateNumber t.states key.first
   pub second : IsStateNumber t.states key.second
+  pub order : AreInOrder key.first key.second
   pub node : node_key t.states key ≡ key_of operator class kids
 
 no_state : (states : List Items) → IsStateNumber states None
@@ -27,19 +28,19 @@ a_state states n i h m e = let same : n ≡ m = some_same n m e in subst (λ k. 
 
 pub key_facts : (t : Tables) (operator class : ℕ) (a b : Option Label) (kids : List Items) (key : StateKey) → numbered_key operator class a b ≡ Some key → KidsAre (Means t) a b kids → IsKeyOfKids t operator class kids key
 key_facts t op class None None [] key e h = subst (IsKeyOfKids t op class []) (some_same (record { operator = op; class = class; first = None; second = None }) key e)
-    (record { first = no_state t.states; second = no_state t.states; node = refl })
+    (record { first = no_state t.states; second = no_state t.states; order = tt; node = refl })
 key_facts t op class None None (i ∷ is) key e h = absurd h
 key_facts t op class None (Some b) kids key e h = absurd h
 key_facts t op class (Some (Plain p)) b kids key e h = absurd (cc)
 key_facts t op class (Some (Numbered n)) None [] key e h = absurd h
 key_facts t op class (Some (Numbered n)) None (i ∷ []) key e h = subst (IsKeyOfKids t op class (i ∷ [])) (some_same (record { operator = op; class = class; first = Some n; second = None }) key e)
-    (record { first = a_state t.states n i h; second = no_state t.states; node = λ k. key_of op class (kid_sets (h k) None) })
+    (record { first = a_state t.states n i h; second = no_state t.states; order = tt; node = λ k. key_of op class (kid_sets (h k) None) })
 key_facts t op class (Some (Numbered n)) None (i ∷ j ∷ is) key e h = absurd h
 key_facts t op class (Some (Numbered n)) (Some (Plain p)) kids key e h = absurd (cc)
 key_facts t op class (Some (Numbered n)) (Some (Numbered m)) [] key e h = absurd h
 key_facts t op class (Some (Numbered n)) (Some (Numbered m)) (i ∷ []) key e h = absurd h
 key_facts t op class (Some (Numbered n)) (Some (Numbered m)) (i ∷ j ∷ []) key e h = subst (IsKeyOfKids t op class (i ∷ j ∷ [])) (some_same (record { operator = op; class = class; first = Some n; second = Some m }) key e)
-    (record { first = a_state t.states n i h.0; second = a_state t.states m j h.1; node = λ k. key_of op class (kid_sets (h.0 k) (h.1 k)) })
+    (record { first = a_state t.states n i h.0; second = a_state t.states m j h.1; order = tt; node = λ k. key_of op class (kid_sets (h.0 k) (h.1 k)) })
 key_facts t op class (Some (Numbered n)) (Some (Numbered m)) (i ∷ j ∷ l ∷ is) key e h = absurd h
 
 -- the number of the item set that follows from a key is the key's
@@ -48,6 +49,7 @@ pub transition : (t : Tables) (operator class : ℕ) (a b : Option Label) (kids 
 transition t operator class a b kids key n i e h follows stands =
     let facts = key_facts t operator class a b kids key e h in
     record {
+      order = facts.order;
       first = facts.first;
       second = facts.second;
       items = i;
@@ -61,6 +63,7 @@ pub transition_added : (t : Tables) (operator class : ℕ) (a b : Option Label) 
 transition_added t operator class a b kids key n i e h follows number =
     let facts = key_facts t operator class a b kids key e h in
     record {
+      order = facts.order;
       first = IsStateNumber-grown t.states (i ∷ []) key.first facts.first;
       second = IsStateNumber-grown t.states (i ∷ []) key.second facts.second;
       items = i;

@@ -22,6 +22,7 @@ IsStateNumber-grown states more o h n e = let l = h n e in let s : length (state
 
 pub IsTransition-grown : (normal : NormalForm) (states more : List Items) (key : StateKey) (n : ℕ) → IsTransition normal states key n → IsTransition normal (states ++ more) key n
 IsTransition-grown normal states more key n t = record {
+  order = t.order;
   first = IsStateNumber-grown states more key.first t.first;
   second = IsStateNumber-grown states more key.second t.second;
   items = t.items;

@@ -12,3 +12,5 @@ pub mod Results
 pub mod SmallEntries
 pub mod Told
 pub mod Ways
+pub mod OneKey
+pub mod Calls

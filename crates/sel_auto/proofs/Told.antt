@@ -1,20 +1,19 @@
 -- What the clauses of a call that labels a node say, shown for each way.
-use Rattle.std.proofs.Common.{◌≡◌, ℕ, ◌<◌, ◌↔◌, ◌⊎◌, inl, inr, true, false, Option, Some, List, [], ◌∷◌, ◌++◌, length, slice_get, refl, sym, ap, subst, ◌∙◌, arith}
-use Rattle.std.proofs.lemmas.List.{append-nil}
+use Rattle.std.proofs.Common.{◌≡◌, ℕ, ◌+◌, ◌<◌, ◌≤◌, ◌↔◌, Bool, nat_lt, if◌then◌else◌, ◌⊎◌, inl, inr, true, false, Option, Some, List, [], ◌∷◌, ◌++◌, length, slice_get, refl, sym, ap, subst, ◌∙◌, arith}
+use Rattle.std.proofs.lemmas.List.{append-nil, length_push}
 use Rattle.sel_items.specs.declared.items.Items.{Items}
 use Rattle.sel_items.specs.declared.label.Label.{Label}
 use Rattle.sel_items.specs.declared.label.Label.TheVariants.{Numbered, Plain}
-use Rattle.sel_items.specs.Follows.{NodeKey, key_of}
+use Rattle.sel_items.specs.Follows.{NodeKey, key_of, Follows}
 use Rattle.sel_items.specs.Labels.{IsPlain, IsNumbered, AreNumbered, KidsAre}
-use Rattle.sel_items.specs.Automata.{IsLabelled}
+use Rattle.sel_items.specs.Automata.{IsLabelled, IsOwnKey, KeepsMark}
 use Rattle.sel_auto.specs.declared.key.StateKey.{StateKey}
 use Rattle.sel_auto.specs.Sets.{IsAmong}
 use Rattle.sel_auto.specs.Keys.{numbered_key}
-use Rattle.sel_auto.specs.Tables.{Tables, Means, IsKept, IsKnown, node_key, one_more, with_evaluation, with_plain, with_state, with_key, with_used_up}
-use Rattle.sel_auto.specs.TableChanges.{IsKeptFor, HasNoNumber, IsLeftWithout}
-use Rattle.sel_auto.specs.Answers.{FollowsKids, IsRefused}
+use Rattle.sel_auto.specs.Tables.{Tables, Means, IsKept, IsKnown, told_of, limits_of, node_key, one_more, with_evaluation, with_plain, with_state, with_key, with_used_up}
+use Rattle.sel_auto.specs.TableChanges.{IsKeptFor, HasNoNumber, IsLeftWithout, KeepsPlain, FollowsKids, IsRefused}
 use Rattle.sel_auto.proofs.Cases.{Way, over_plain, hit, found, added, unnumbered}
-use Rattle.sel_auto.proofs.Growth.{some_same, get_kept, get_last, get_split, IsAmong-kept}
+use Rattle.sel_auto.proofs.Growth.{some_same, get_kept, get_last, get_split, IsAmong-kept, IsAmong-push}
 use Rattle.sel_auto.proofs.KeyFacts.{key_facts}
 use Rattle.sel_auto.proofs.Lawful.{node_key-grown}
 use Rattle.sel_auto.proofs.Numbering.{numbered_by_key, plain_without_key}
@@ -62,8 +61,8 @@ module _ (t : Tables) (operator class : ℕ) (a b : Option Label) (before_call :
       numbered n w (inr p) = w p
 
   pub labelled : (kids : List Items) → KidsAre (Means t) a b kids → (new : Tables) (before after : ℕ) (l : Label) → Way t new before after operator class a b l
-      → IsLabelled t.normal (Means new) (IsAmong new.states) (IsKnown new) new.used_up new.row_full operator class a b kids l
-  labelled kids h = each t operator class a b (λ s l. IsLabelled t.normal (Means s) (IsAmong s.states) (IsKnown s) s.used_up s.row_full operator class a b kids l)
+      → IsLabelled (told_of new) operator class a b kids l
+  labelled kids h = each t operator class a b (λ s l. IsLabelled (told_of s) operator class a b kids l)
       (λ i e f. record {
         items = i;
         meant = get_last t.plain i;
@@ -105,6 +104,43 @@ module _ (t : Tables) (operator class : ℕ) (a b : Option Label) (before_call :
         tabled = λ n u r w. absurd (let no : true ≡ false = u in cc);
       })
 
+  pub mark_used : (new : Tables) (before after : ℕ) (l : Label) → Way t new before after operator class a b l → (new.used_up ≡ true) ↔ ((t.used_up ≡ true) ⊎ (IsPlain l × AreNumbered a b))
+  mark_used = each t operator class a b (λ s l. (s.used_up ≡ true) ↔ ((t.used_up ≡ true) ⊎ (IsPlain l × AreNumbered a b)))
+      (λ i e f. (λ h. inl h, λ q. over q (plain_without_key operator class a b e)))
+      (λ key n e kept. (λ h. inl h, λ q. no_plain q))
+      (λ key i n e m f s. (λ h. inl h, λ q. no_plain q))
+      (λ key i e m f fresh room. (λ h. inl h, λ q. no_plain q))
+      (λ key i e m f fresh full. (λ h. inr (tt, numbered_by_key operator class a b key e), λ q. refl))
+    where
+      over : (t.used_up ≡ true) ⊎ (Unit {0} × AreNumbered a b) → (AreNumbered a b → ⊥) → t.used_up ≡ true
+      over (inl h) f = h
+      over (inr q) f = absurd (f q.1)
+
+      no_plain : (t.used_up ≡ true) ⊎ (⊥ × AreNumbered a b) → t.used_up ≡ true
+      no_plain (inl h) = h
+      no_plain (inr q) = absurd q.0
+
+  pub plain_kept : (new : Tables) (before after : ℕ) (l : Label) → Way t new before after operator class a b l → KeepsPlain t new l
+  plain_kept = each t operator class a b (KeepsPlain t) (λ i e f. (refl, (i, refl))) (λ key n e kept. refl) (λ key i n e m f s. refl) (λ key i e m f fresh room. refl) (λ key i e m f fresh full. (refl, (i, refl)))
+
+  pub limits_kept : (new : Tables) (before after : ℕ) (l : Label) → Way t new before after operator class a b l → limits_of new ≡ limits_of t
+  limits_kept = each t operator class a b (λ s l. limits_of s ≡ limits_of t) (λ i e f. refl) (λ key n e kept. refl) (λ key i n e m f s. refl) (λ key i e m f fresh room. refl) (λ key i e m f fresh full. refl)
+
+  pub normal_kept : (new : Tables) (before after : ℕ) (l : Label) → Way t new before after operator class a b l → new.normal ≡ t.normal
+  normal_kept = each t operator class a b (λ s l. s.normal ≡ t.normal) (λ i e f. refl) (λ key n e kept. refl) (λ key i n e m f s. refl) (λ key i e m f fresh room. refl) (λ key i e m f fresh full. refl)
+
+  pub marks_kept : (new : Tables) (before after : ℕ) (l : Label) → Way t new before after operator class a b l → KeepsMark t.used_up new.used_up × KeepsMark t.row_full new.row_full
+  marks_kept = each t operator class a b (λ s l. KeepsMark t.used_up s.used_up × KeepsMark t.row_full s.row_full)
+      (λ i e f. (λ h. h, λ h. h)) (λ key n e kept. (λ h. h, λ h. h)) (λ key i n e m f s. (λ h. h, stays (nat_lt (length t.keys) t.most_keys))) (λ key i e m f fresh room. (λ h. h, stays (nat_lt (length t.keys) t.most_keys))) (λ key i e m f fresh full. (λ h. refl, λ h. h))
+    where
+      stays : (c : Bool) → KeepsMark t.row_full (if c then t.row_full else true)
+      stays true h = h
+      stays false h = refl
+
+  pub plain_more : (new : Tables) (before after : ℕ) (l : Label) → Way t new before after operator class a b l → length new.plain ≤ length t.plain + 1
+  plain_more = each t operator class a b (λ s l. length s.plain ≤ length t.plain + 1)
+      (λ i e f. let q = length_push t.plain i in omega arith) (λ key n e kept. omega arith) (λ key i n e m f s. omega arith) (λ key i e m f fresh room. omega arith) (λ key i e m f fresh full. let q = length_push t.plain i in omega arith)
+
   -- tables grow only
   pub grown : (new : Tables) (before after : ℕ) (l : Label) → Way t new before after operator class a b l → Grown t new
   grown = each t operator class a b (λ s l. Grown t s)
@@ -120,9 +156,9 @@ module _ (t : Tables) (operator class : ℕ) (a b : Option Label) (before_call :
       at : (s : Tables) → new ≡ s → Grown t s → Grown t new
       at s e g = subst (Grown t) (sym e) g
 
-      by : (new ≡ with_evaluation t) ⊎ ((i : Items) × FollowsKids t operator class a b i × (IsAmong t.states i → ⊥) × (length t.states < t.most_states) × (new ≡ with_state (with_evaluation t) i)) → Grown t new
+      by : (new ≡ with_evaluation t) ⊎ ((i : Items) × FollowsKids t operator class a b i × AreNumbered a b × (IsAmong t.states i → ⊥) × (length t.states < t.most_states) × (new ≡ with_state (with_evaluation t) i)) → Grown t new
       by (inl e) = at _ e (record { more_states = []; states = sym (append-nil t.states); more_keys = []; keys = sym (append-nil t.keys); more_plain = []; plain = sym (append-nil t.plain) })
-      by (inr e) = at _ e.4 (record { more_states = e.0 ∷ []; states = refl; more_keys = []; keys = sym (append-nil t.keys); more_plain = []; plain = sym (append-nil t.plain) })
+      by (inr e) = at _ e.5 (record { more_states = e.0 ∷ []; states = refl; more_keys = []; keys = sym (append-nil t.keys); more_plain = []; plain = sym (append-nil t.plain) })
 
   pub means_kept : (s : Tables) → Grown t s → (l : Label) (i : Items) → Means t l i → Means s l i
   means_kept s g (Numbered n) i h = subst (λ xs. slice_get xs n ≡ Some i) (sym g.states) (get_kept t.states g.more_states n i h)
@@ -162,12 +198,6 @@ module _ (t : Tables) (operator class : ℕ) (a b : Option Label) (before_call :
       longer s j e (Numbered n) i p h = absurd p
       longer s j e (Plain q) i p h = split q i (forget q i j (get_split t.plain j q i (subst (λ xs. slice_get xs q ≡ Some i) e h)))
 
-  -- a key that is known was so before, or the kids are numbered
-  pub known_numbered : (new : Tables) (before after : ℕ) (l : Label) → Way t new before after operator class a b l → (k : NodeKey) → IsKnown new k → IsKnown t k ⊎ AreNumbered a b
-  known_numbered = each t operator class a b (λ s l. (k : NodeKey) → IsKnown s k → IsKnown t k ⊎ AreNumbered a b)
-      (λ i e f k h. inl h) (λ key n e kept k h. inl h) (λ key i n e m f s k h. inr (numbered_by_key operator class a b key e))
-      (λ key i e m f fresh room k h. inr (numbered_by_key operator class a b key e)) (λ key i e m f fresh full k h. inl h)
-
   -- more states and no more keys: no more is known
   known_before : (s : Tables) (more : List Items) → s.keys ≡ t.keys → s.states ≡ t.states ++ more → (k : NodeKey) → IsKnown s k → IsKnown t k
   known_before s more e f k h =
@@ -178,14 +208,14 @@ module _ (t : Tables) (operator class : ℕ) (a b : Option Label) (before_call :
   pub known_refused : (new : Tables) → IsRefused t new operator class a b → (k : NodeKey) → IsKnown new k → IsKnown t k
   known_refused new r k h = by r.tables
     where
-      by : (new ≡ with_evaluation t) ⊎ ((i : Items) × FollowsKids t operator class a b i × (IsAmong t.states i → ⊥) × (length t.states < t.most_states) × (new ≡ with_state (with_evaluation t) i)) → IsKnown t k
+      by : (new ≡ with_evaluation t) ⊎ ((i : Items) × FollowsKids t operator class a b i × AreNumbered a b × (IsAmong t.states i → ⊥) × (length t.states < t.most_states) × (new ≡ with_state (with_evaluation t) i)) → IsKnown t k
       by (inl e) = known_before new [] (ap (λ (s : Tables). s.keys) e) (ap (λ (s : Tables). s.states) e ∙ sym (append-nil t.states)) k h
-      by (inr e) = known_before new (e.0 ∷ []) (ap (λ (s : Tables). s.keys) e.4) (ap (λ (s : Tables). s.states) e.4) k h
+      by (inr e) = known_before new (e.0 ∷ []) (ap (λ (s : Tables). s.keys) e.5) (ap (λ (s : Tables). s.states) e.5) k h
 
   -- or it is the node's own
   pub known_own : (kids : List Items) → KidsAre (Means t) a b kids → (new : Tables) (before after : ℕ) (l : Label) → Way t new before after operator class a b l
-      → (k : NodeKey) → IsKnown new k → IsKnown t k ⊎ ((is : List Items) × KidsAre (Means t) a b is × (k ≡ key_of operator class is))
-  known_own kids h = each t operator class a b (λ s l. (k : NodeKey) → IsKnown s k → IsKnown t k ⊎ ((is : List Items) × KidsAre (Means t) a b is × (k ≡ key_of operator class is)))
+      → (k : NodeKey) → IsKnown new k → IsKnown t k ⊎ IsOwnKey (told_of t) operator class a b k
+  known_own kids h = each t operator class a b (λ s l. (k : NodeKey) → IsKnown s k → IsKnown t k ⊎ IsOwnKey (told_of t) operator class a b k)
       (λ i e f k g. inl g)
       (λ key n e kept k g. inl g)
       (λ key i n e m f s k g. old_or_new [] key n k g.0 g.1 e (g.3 ∙ ap (λ xs. node_key xs g.0) (sym (append-nil t.states))) (keys_split t operator class a b key n (g.0, g.1) g.2))
@@ -193,13 +223,40 @@ module _ (t : Tables) (operator class : ℕ) (a b : Option Label) (before_call :
       (λ key i e m f fresh full k g. inl g)
     where
       old_or_new : (more : List Items) (key : StateKey) (n : ℕ) (k : NodeKey) (own : StateKey) (m : ℕ) → numbered_key operator class a b ≡ Some key → k ≡ node_key (t.states ++ more) own
-          → IsAmong t.keys (own, m) ⊎ ◌≡◌ {A = StateKey × ℕ} (own, m) (key, n) → IsKnown t k ⊎ ((is : List Items) × KidsAre (Means t) a b is × (k ≡ key_of operator class is))
+          → IsAmong t.keys (own, m) ⊎ ◌≡◌ {A = StateKey × ℕ} (own, m) (key, n) → IsKnown t k ⊎ IsOwnKey (told_of t) operator class a b k
       old_or_new more key n k own m e g (inl kept) =
           let facts = before_call.follow own m kept in
           inl (own, m, kept, g ∙ node_key-grown t.states more own facts.first facts.second)
       old_or_new more key n k own m e g (inr q) =
           let facts = key_facts t operator class a b kids key e h in
-          inr (kids, h, g ∙ ap (λ (p : StateKey × ℕ). node_key (t.states ++ more) p.0) q ∙ node_key-grown t.states more key facts.first facts.second ∙ facts.node)
+          inr (numbered_by_key operator class a b key e, (kids, h, g ∙ ap (λ (p : StateKey × ℕ). node_key (t.states ++ more) p.0) q ∙ node_key-grown t.states more key facts.first facts.second ∙ facts.node))
+
+  abbrev IsGiven : Tables → Items → Type 0
+  IsGiven s i = (k : NodeKey) × (IsKnown s k ⊎ IsOwnKey (told_of s) operator class a b k) × Follows s.normal k i
+
+  given_split : (kids : List Items) → KidsAre (Means t) a b kids → AreNumbered a b → (i : Items) → FollowsKids t operator class a b i → (j : Items) → IsAmong (t.states ++ i ∷ []) j → IsAmong t.states j ⊎ IsGiven t j
+  given_split kids h n i f j g = by (IsAmong-push t.states i j g)
+    where
+      by : IsAmong t.states j ⊎ (j ≡ i) → IsAmong t.states j ⊎ IsGiven t j
+      by (inl o) = inl o
+      by (inr e) = inr (key_of operator class kids, inr (n, (kids, h, refl)), subst (Follows t.normal (key_of operator class kids)) (sym e) (f kids h))
+
+  -- an item set that is a state's was so before, or is the one that follows from the node's key
+  pub held_own : (kids : List Items) → KidsAre (Means t) a b kids → (new : Tables) (before after : ℕ) (l : Label) → Way t new before after operator class a b l
+      → (i : Items) → IsAmong new.states i → IsAmong t.states i ⊎ IsGiven t i
+  held_own kids h = each t operator class a b (λ s l. (i : Items) → IsAmong s.states i → IsAmong t.states i ⊎ IsGiven t i)
+      (λ i e f j g. inl g)
+      (λ key n e kept j g. inl g)
+      (λ key i n e m f s j g. inl g)
+      (λ key i e m f fresh room j g. given_split kids h (numbered_by_key operator class a b key e) i f j g)
+      (λ key i e m f fresh full j g. inl g)
+
+  pub held_refused : (kids : List Items) → KidsAre (Means t) a b kids → (new : Tables) → IsRefused t new operator class a b → (i : Items) → IsAmong new.states i → IsAmong t.states i ⊎ IsGiven t i
+  held_refused kids h new r i g = by r.tables
+    where
+      by : (new ≡ with_evaluation t) ⊎ ((i : Items) × FollowsKids t operator class a b i × AreNumbered a b × (IsAmong t.states i → ⊥) × (length t.states < t.most_states) × (new ≡ with_state (with_evaluation t) i)) → IsAmong t.states i ⊎ IsGiven t i
+      by (inl e) = inl (subst (λ (s : Tables). IsAmong s.states i) e g)
+      by (inr e) = given_split kids h e.2 e.0 e.1 i (subst (λ (s : Tables). IsAmong s.states i) e.5 g)
 
   no_miss : (x y : StateKey) (n : ℕ) → numbered_key operator class a b ≡ Some x → numbered_key operator class a b ≡ Some y → ((m : ℕ) → IsKept t x m → ⊥) → IsKept t y n → ⊥
   no_miss x y n e f missing kept = missing n (subst (λ (k : StateKey). IsKept t k n) (some_same y x (sym f ∙ e)) kept)

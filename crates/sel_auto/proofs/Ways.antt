@@ -13,8 +13,7 @@ use Rattle.sel_auto.specs.declared.key.StateKey.{StateKey}
 use Rattle.sel_auto.specs.Sets.{IsAmong, AreDifferent}
 use Rattle.sel_auto.specs.Keys.{numbered_key}
 use Rattle.sel_auto.specs.Tables.{Tables, Means, IsKept, IsTransition, keys_with, with_evaluation, with_plain, with_state, with_key, with_used_up}
-use Rattle.sel_auto.specs.TableChanges.{HasNoNumber, KeepsStates, KeepsKeys}
-use Rattle.sel_auto.specs.Answers.{FollowsKids}
+use Rattle.sel_auto.specs.TableChanges.{HasNoNumber, KeepsStates, KeepsKeys, FollowsKids}
 use Rattle.sel_auto.proofs.Cases.{Way, over_plain, hit, found, added, unnumbered}
 use Rattle.sel_auto.proofs.Growth.{some_same, get_last, IsAmong-push}
 use Rattle.sel_auto.proofs.KeyFacts.{key_facts}
@@ -22,6 +21,7 @@ use Rattle.sel_auto.proofs.KeyFacts.{key_facts}
 -- what is known of the tables before the call
 pub record Before (t : Tables) : Type 0 where
   pub within : length t.keys ≤ t.most_keys
+  pub sets : AreDifferent t.states
   pub differ : AreDifferent (map (λ e. e.0) t.keys)
   pub follow : (key : StateKey) (n : ℕ) → IsKept t key n → IsTransition t.normal t.states key n
   pub one : FollowsIsOne
@@ -122,5 +122,5 @@ module _ (t : Tables) (operator class : ℕ) (a b : Option Label) where
         (λ key i e m f fresh room none. subst (λ o. KeepsKeys t (with_key (with_state (with_evaluation t) i) key (length t.states)) o (Numbered (length t.states))) (sym e) refl)
         (λ key i e m f fresh full none. subst (λ o. KeepsKeys t (with_used_up (with_plain (with_evaluation t) i)) o (Plain (length t.plain))) (sym e) refl)
 
-pub known_before_call : (t : Tables) (kept : ℕ) → kept ≡ length t.keys → kept ≤ t.most_keys → AreDifferent (map (λ e. e.0) t.keys) → ((key : StateKey) (n : ℕ) → IsKept t key n → IsTransition t.normal t.states key n) → FollowsIsOne → Before t
-known_before_call t kept e within differ follow one = record { within = omega arith; differ = differ; follow = follow; one = one }
+pub known_before_call : (t : Tables) (kept : ℕ) → kept ≡ length t.keys → kept ≤ t.most_keys → AreDifferent t.states → AreDifferent (map (λ e. e.0) t.keys) → ((key : StateKey) (n : ℕ) → IsKept t key n → IsTransition t.normal t.states key n) → FollowsIsOne → Before t
+known_before_call t kept e within sets differ follow one = record { within = omega arith; sets = sets; differ = differ; follow = follow; one = one }

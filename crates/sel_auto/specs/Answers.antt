@@ -3,16 +3,11 @@ use Rattle.std.specs.Prelude.{◌≡◌, ℕ, ◌<◌, ◌⊎◌, Option, Some, 
 use Rattle.sel_items.specs.declared.items.Items.{Items}
 use Rattle.sel_items.specs.declared.label.Label.{Label}
 use Rattle.sel_items.specs.declared.label.Label.TheVariants.{Numbered, Plain}
-use Rattle.sel_items.specs.Follows.{key_of, Follows}
-use Rattle.sel_items.specs.Labels.{KidsAre}
 use Rattle.sel_auto.specs.declared.key.StateKey.{StateKey}
 use Rattle.sel_auto.specs.Sets.{IsAmong}
 use Rattle.sel_auto.specs.Keys.{numbered_key}
-use Rattle.sel_auto.specs.Tables.{Tables, Means, IsKept, with_evaluation, with_plain, with_state, with_key, with_used_up}
-
--- the item set follows from what the kids' labels mean
-abbrev pub FollowsKids : Tables → ℕ → ℕ → Option Label → Option Label → Items → Type 0
-FollowsKids t operator class a b i = (kids : List Items) → KidsAre (Means t) a b kids → Follows t.normal (key_of operator class kids) i
+use Rattle.sel_auto.specs.Tables.{Tables, IsKept, with_evaluation, with_plain, with_state, with_key, with_used_up}
+use Rattle.sel_auto.specs.TableChanges.{FollowsKids}
 
 -- the item set is a state's
 pub record IsFound (t new : Tables) (key : StateKey) (i : Items) (l : Label) : Type 0 where
@@ -63,9 +58,3 @@ IsAnswerBy (Some key) t new before after operator class a b l = (IsHit t new key
 -- The call gives the label l and leaves the tables `new`, with a step counter that went from `before` to `after`.
 abbrev pub IsAnswer : Tables → Tables → ℕ → ℕ → ℕ → ℕ → Option Label → Option Label → Label → Type 0
 IsAnswer t new before after operator class a b l = IsAnswerBy (numbered_key operator class a b) t new before after operator class a b l
-
--- Memory was refused: an item set was being evaluated, and it may be that of the next number all the same.
-pub record IsRefused (t new : Tables) (operator class : ℕ) (a b : Option Label) : Type 0 where
-  pub missing : (key : StateKey) → numbered_key operator class a b ≡ Some key → (n : ℕ) → IsKept t key n → ⊥
-  pub tables : (new ≡ with_evaluation t)
-      ⊎ ((i : Items) × FollowsKids t operator class a b i × (IsAmong t.states i → ⊥) × (length t.states < t.most_states) × (new ≡ with_state (with_evaluation t) i))

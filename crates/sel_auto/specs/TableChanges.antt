@@ -1,13 +1,14 @@
 -- How labelling a node changes the tables of a private automaton.
-use Rattle.std.specs.Prelude.{◌≡◌, ℕ, ◌<◌, ◌⊎◌, Option, Some, None, [], ◌∷◌, ◌++◌, length}
+use Rattle.std.specs.Prelude.{◌≡◌, ℕ, ◌<◌, ◌≤◌, ◌⊎◌, ◌↔◌, true, Option, Some, None, List, [], ◌∷◌, ◌++◌, length}
 use Rattle.sel_items.specs.declared.items.Items.{Items}
 use Rattle.sel_items.specs.declared.label.Label.{Label}
 use Rattle.sel_items.specs.declared.label.Label.TheVariants.{Numbered, Plain}
-use Rattle.sel_items.specs.Follows.{NodeKey, Follows}
+use Rattle.sel_items.specs.Follows.{NodeKey, key_of, Follows}
+use Rattle.sel_items.specs.Labels.{IsPlain, IsNumbered, AreNumbered, KidsAre}
 use Rattle.sel_auto.specs.declared.key.StateKey.{StateKey}
 use Rattle.sel_auto.specs.Sets.{IsAmong}
 use Rattle.sel_auto.specs.Keys.{numbered_key}
-use Rattle.sel_auto.specs.Tables.{Tables, IsKept, keys_with}
+use Rattle.sel_auto.specs.Tables.{Tables, Means, IsKept, keys_with, one_more, with_evaluation, with_state}
 
 -- the number is kept for the node's key
 abbrev pub IsKeptFor : Tables → ℕ → ℕ → Option Label → Option Label → ℕ → Type 0
@@ -37,10 +38,27 @@ KeepsKeys t new (Some key) (Numbered n) = new.keys ≡ keys_with t key n
 KeepsKeys t new None (Numbered n) = ⊥
 KeepsKeys t new o (Plain p) = new.keys ≡ t.keys
 
--- The call was refused memory: but for the count of evaluations the tables are as before, or there is one state more.
-pub record IsLeftAfterRefusal (t new : Tables) : Type 0 where
-  pub states : (new.states ≡ t.states) ⊎ ((i : Items) × (new.states ≡ t.states ++ i ∷ []))
-  pub keys : new.keys ≡ t.keys
-  pub plain : new.plain ≡ t.plain
-  pub used_up : new.used_up ≡ t.used_up
-  pub row_full : new.row_full ≡ t.row_full
+-- the item set follows from what the kids' labels mean
+abbrev pub FollowsKids : Tables → ℕ → ℕ → Option Label → Option Label → Items → Type 0
+FollowsKids t operator class a b i = (kids : List Items) → KidsAre (Means t) a b kids → Follows t.normal (key_of operator class kids) i
+
+-- What a label leaves of the tables: states, plain labels and keys are added in order, and the marks are set where there was no number or no room.
+pub record IsChanged (t new : Tables) (operator class : ℕ) (a b : Option Label) (l : Label) : Type 0 where
+  -- it is plain exactly where a kid's is, or where each number is given and the item set is that of none
+  pub plain_where : (kids : List Items) → KidsAre (Means t) a b kids → IsPlain l ↔ ((AreNumbered a b → ⊥) ⊎ IsLeftWithout t (key_of operator class kids))
+  pub states : KeepsStates t new l
+  pub plain : KeepsPlain t new l
+  pub keys : HasNoNumber t operator class a b → KeepsKeys t new (numbered_key operator class a b) l
+  pub used_up : (new.used_up ≡ true) ↔ ((t.used_up ≡ true) ⊎ (IsPlain l × AreNumbered a b))
+  pub row_full : (new.row_full ≡ true) ↔ ((t.row_full ≡ true) ⊎ (IsNumbered l × HasNoNumber t operator class a b × (length t.keys ≡ t.most_keys)))
+
+-- Memory was refused: an item set was being evaluated for a node without a kept number. But for the count nothing changed, or over numbered kids the item set is that of the next number all the same.
+pub record IsRefused (t new : Tables) (operator class : ℕ) (a b : Option Label) : Type 0 where
+  pub missing : HasNoNumber t operator class a b
+  pub tables : (new ≡ with_evaluation t)
+      ⊎ ((i : Items) × FollowsKids t operator class a b i × AreNumbered a b × (IsAmong t.states i → ⊥) × (length t.states < t.most_states) × (new ≡ with_state (with_evaluation t) i))
+
+-- A call for a node without a kept number takes steps and is counted, up to the greatest number.
+pub record IsCounted (t new : Tables) (operator class : ℕ) (a b : Option Label) (before after : ℕ) : Type 0 where
+  pub evaluated : HasNoNumber t operator class a b → (before < after) × (new.evaluated ≡ one_more t.evaluated)
+  pub no_fewer : before ≤ after

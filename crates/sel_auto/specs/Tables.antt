@@ -4,6 +4,7 @@ use Rattle.sel_normal.specs.NormalForms.{NormalForm}
 use Rattle.sel_items.specs.declared.items.Items.{Items}
 use Rattle.sel_items.specs.declared.label.Label.{Label}
 use Rattle.sel_items.specs.declared.label.Label.TheVariants.{Numbered, Plain}
+use Rattle.sel_items.specs.Automata.{Told}
 use Rattle.sel_items.specs.Follows.{NodeKey, key_of, Follows}
 use Rattle.sel_items.specs.KidSets.{kid_sets}
 use Rattle.sel_auto.specs.declared.key.StateKey.{StateKey}
@@ -69,8 +70,14 @@ IsKnown t k = (key : StateKey) × (n : ℕ) × IsKept t key n × (k ≡ node_key
 abbrev pub IsStateNumber : List Items → Option ℕ → Type 0
 IsStateNumber states o = (n : ℕ) → o ≡ Some n → n < length states
 
+-- a second kid stands beside a first
+abbrev pub AreInOrder : Option ℕ → Option ℕ → Type 0
+AreInOrder None (Some m) = ⊥
+AreInOrder _ _ = Unit {0}
+
 -- the key's kids are states, and what follows from it is the item set of the number
 pub record IsTransition (normal : NormalForm) (states : List Items) (key : StateKey) (n : ℕ) : Type 0 where
+  pub order : AreInOrder key.first key.second
   pub first : IsStateNumber states key.first
   pub second : IsStateNumber states key.second
   pub items : Items
@@ -92,6 +99,24 @@ pub record AreLawful (t : Tables) : Type 0 where
   pub states_differ : AreDifferent t.states
   pub keys_differ : AreDifferent (map (λ e. e.0) t.keys)
   pub transitions : (key : StateKey) (n : ℕ) → IsKept t key n → IsTransition t.normal t.states key n
+
+-- What an automaton over these tables tells. It is asked for a key where it is to keep it, and a known key is ready.
+abbrev pub told_of : Tables → Told
+told_of t = record {
+  normal = t.normal;
+  means = Means t;
+  plain_labels = length t.plain;
+  asked = IsKnown t;
+  known = IsKnown t;
+  ready = IsKnown t;
+  held = IsAmong t.states;
+  used_up = t.used_up;
+  row_full = t.row_full;
+}
+
+-- how many states and keys there may be
+abbrev pub limits_of : Tables → ℕ × ℕ
+limits_of t = (t.most_states, t.most_keys)
 
 -- one more, up to the greatest number of 64 bits
 abbrev pub one_more : ℕ → ℕ

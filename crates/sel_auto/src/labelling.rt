@@ -4,7 +4,8 @@ ghost use Rattle.sel_items.specs.declared.items.Items.{Items};
 ghost use Rattle.sel_items.specs.Labels.{KidsAre, AreKidSets, IsClassOver};
 ghost use Rattle.sel_auto.specs.Keys.{numbered_key};
 ghost use Rattle.sel_auto.specs.Tables.{Means, IsKept};
-ghost use Rattle.sel_auto.specs.Answers.{IsMissed, IsOverPlain, IsRefused, IsAnswer};
+ghost use Rattle.sel_auto.specs.Answers.{IsMissed, IsOverPlain, IsAnswer};
+ghost use Rattle.sel_auto.specs.TableChanges.{IsRefused};
 
 use crate::key::{StateKey, numbered_key};
 use crate::private::PrivateAutomaton;
@@ -29,8 +30,7 @@ impl<'n> PrivateAutomaton<'n> {
         requires room { length self.old.plain < 2 ^ 32 }
         ensures answered { IfOk result (λ l. IsOverPlain self.old self.new operator class kids.0 kids.1 l) }
         ensures refused { OnErr result (IsRefused self.old self.new operator class kids.0 kids.1) }
-        ensures counted { IfOk result (λ _. steps.old < steps.new) }
-        ensures steps { steps.old ≤ steps.new }
+        ensures steps { steps.old < steps.new }
     {
         let items = self.evaluate_counted(alloc, operator, class, kids, steps)?;
         self.add_plain(items)
@@ -51,8 +51,7 @@ impl<'n> PrivateAutomaton<'n> {
         requires room { length self.old.plain < 2 ^ 32 }
         ensures answered { IfOk result (λ l. IsMissed self.old self.new key key.operator key.class kids.0 kids.1 l) }
         ensures refused { OnErr result (IsRefused self.old self.new key.operator key.class kids.0 kids.1) }
-        ensures counted { IfOk result (λ _. steps.old < steps.new) }
-        ensures steps { steps.old ≤ steps.new }
+        ensures steps { steps.old < steps.new }
     {
         let items = self.evaluate_counted(alloc, key.operator, key.class, kids, steps)?;
         match self.find(&items) {
@@ -86,7 +85,7 @@ impl<'n> PrivateAutomaton<'n> {
         requires class { IsClassOver self.old.normal class kids.0 }
         requires room { length self.old.plain < 2 ^ 32 }
         ensures answered { IfOk result (λ l. IsAnswer self.old self.new steps.old steps.new operator class kids.0 kids.1 l) }
-        ensures refused { OnErr result (IsRefused self.old self.new operator class kids.0 kids.1) }
+        ensures refused { OnErr result (IsRefused self.old self.new operator class kids.0 kids.1 × (steps.old < steps.new)) }
         ensures steps { steps.old ≤ steps.new }
     {
         match numbered_key(operator, class, kids) {

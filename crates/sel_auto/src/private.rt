@@ -4,7 +4,7 @@ ghost use Rattle.std.specs.Option.{option_copied};
 ghost use Rattle.sel_items.specs.Labels.{KidsAre, AreKidSets, IsClassOver};
 ghost use Rattle.sel_auto.specs.Sets.{IsAmong, AreDifferent};
 ghost use Rattle.sel_auto.specs.Tables.{Means, IsKept, IsTransition, meaning, kid_meaning, empty_tables, with_evaluation, with_plain, with_state, with_key, with_used_up};
-ghost use Rattle.sel_auto.specs.Answers.{FollowsKids};
+ghost use Rattle.sel_auto.specs.TableChanges.{FollowsKids};
 
 use crate::key::StateKey;
 use crate::states::States;
@@ -189,8 +189,7 @@ impl<'n> PrivateAutomaton<'n> {
         requires kids { (is : List Items) × KidsAre (Means self.now) kids.0 kids.1 is × AreKidSets self.now.normal is }
         requires class { IsClassOver self.now.normal class kids.0 }
         ensures follows { IfOk result (λ items. FollowsKids self.now operator class kids.0 kids.1 items) }
-        ensures counted { IfOk result (λ _. steps.old < steps.new) }
-        ensures steps { steps.old ≤ steps.new }
+        ensures steps { steps.old < steps.new }
     {
         let normal = self.normal;
         let first = self.kid_meaning(kids.0);
@@ -211,8 +210,7 @@ impl<'n> PrivateAutomaton<'n> {
         requires class { IsClassOver self.old.normal class kids.0 }
         ensures tables { self.new ≡ with_evaluation self.old }
         ensures follows { IfOk result (λ items. FollowsKids self.old operator class kids.0 kids.1 items) }
-        ensures counted { IfOk result (λ _. steps.old < steps.new) }
-        ensures steps { steps.old ≤ steps.new }
+        ensures steps { steps.old < steps.new }
     {
         let items = self.evaluate(alloc, operator, class, kids, steps);
         self.count_evaluation();

@@ -28,7 +28,3 @@ IsChainedEntry normal given n (Some item) = IsLeastChained normal given n item
 pub record IsClosedFrom (normal : NormalForm) (given row : ItemRow) : Type 0 where
   pub long : length row ≡ length given
   pub each : (n : ℕ) → IsChainedEntry normal given n (item_at row n)
-
--- one step for each rule in each of some passes over all rules, of which there is one at least
-abbrev pub LooksAtRules : NormalForm → ℕ → ℕ → Type 0
-LooksAtRules normal old new = (passes : ℕ) × (new ≡ old + (passes + 1) * length normal.rules)

@@ -6,7 +6,7 @@ ghost use Rattle.sel_items.specs.CostBounds.{AreBelow};
 ghost use Rattle.sel_items.specs.Entries.{item_at};
 ghost use Rattle.sel_items.specs.Evaluating.{IsBelowIn};
 ghost use Rattle.sel_items.specs.Follows.{item_cost};
-ghost use Rattle.sel_items.specs.ChainClosing.{IsClosedFrom, LooksAtRules};
+ghost use Rattle.sel_items.specs.ChainClosing.{IsClosedFrom};
 ghost use Rattle.sel_items.specs.ChainPasses.{IsTurned, ChainStands, AllStand, KeepsRow, HasStart, total_distance};
 
 use crate::items::{Item, Items};
@@ -74,7 +74,7 @@ pub fn close_chains<L: Ledger>(normal: &Normal, items: &mut Items, steps: &mut S
     requires low { AreBelow 48 items.old.entries }
     ensures closed { IsClosedFrom normal.now items.old.entries items.new.entries }
     ensures low { AreBelow 49 items.new.entries }
-    ensures steps { LooksAtRules normal.now steps.old steps.new }
+    ensures steps { steps.old ≤ steps.new }
 {
     // that there are few nonterminals bounds how many chain rules a least candidate has
     let _few = normal.nonterminals();

@@ -5,7 +5,6 @@ ghost use Rattle.sel_grammar.specs.Costs.{◌⊕◌};
 ghost use Rattle.sel_range.specs.Classes.{Occurs};
 ghost use Rattle.sel_normal.specs.Standing.{IsWithin, IsRuleWithin};
 ghost use Rattle.sel_items.specs.declared.items.Item.{Item};
-ghost use Rattle.sel_items.specs.ChainClosing.{LooksAtRules};
 ghost use Rattle.sel_items.specs.CostBounds.{AreBelow, IsBelow};
 ghost use Rattle.sel_items.specs.Entries.{item_at};
 ghost use Rattle.sel_items.specs.Evaluating.{IsBelowIn, IsSmallKid, IsStart, IsStartTo};
@@ -192,10 +191,8 @@ pub fn evaluate<L: Ledger>(
     requires order { AreKidsInOrder (option_copied first) (option_copied second) }
     requires class { IsClassOver normal.now class (option_copied first) }
     ensures follows { IfOk result (λ items. Follows normal.now (key_of operator class (kid_sets (option_copied first.entry) (option_copied second.entry))) items) }
-    ensures counted { IfOk result (λ _. steps.old < steps.new) }
-    ensures looks { IfOk result (λ _. LooksAtRules normal.now (steps.old + 1 + length normal.now.rules) steps.new) }
+    ensures counted { steps.old < steps.new }
     ensures begun { OnErr result (steps.new ≡ steps.old + 1) }
-    ensures steps { steps.old ≤ steps.new }
 {
     steps.tick();
     let mut row = empty_row(alloc, normal.nonterminals())?;
