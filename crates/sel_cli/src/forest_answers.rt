@@ -36,18 +36,18 @@ fn answer_next<A: Automaton, L: Ledger, G: Gate>(
     steps: &mut Steps<L>,
     gate: &G,
 ) -> Result<(), NoMemory>
-    requires normal { A.normal automaton.old ≡ accepted.now.normal }
+    requires normal { (A.told automaton.old).normal ≡ accepted.now.normal }
     requires form { IsAcceptedForm accepted.now.grammar accepted.now.normal }
     requires valid { IsValidTree accepted.now.grammar tree.now }
     requires so_far { (trees : List AnyTree) × AreTold accepted.now.grammar trees telling.old }
     requires few { telling.old.count < most_trees }
     ensures told { (trees : List AnyTree) → AreTold accepted.now.grammar trees telling.old → OnOk result (AreTold accepted.now.grammar (trees ++ tree.now ∷ []) telling.new) }
     ensures same { telling.new.told ≡ telling.old.told }
-    ensures normal { A.normal automaton.new ≡ A.normal automaton.old }
+    ensures normal { (A.told automaton.new).normal ≡ (A.told automaton.old).normal }
 {
     let number = telling.count;
     gate.enter(0, number);
-    let answer = answer_tree(
+    let answered = answer_tree(
         automaton,
         expander,
         alloc,
@@ -57,7 +57,7 @@ fn answer_next<A: Automaton, L: Ledger, G: Gate>(
         telling.told.goal(),
         steps,
     )?;
-    telling.tell(&answer)?;
+    telling.tell(&answered.answer)?;
     gate.leave(0, number);
     Ok(())
 }
@@ -72,7 +72,7 @@ fn answer_by<A: Automaton, L: Ledger, G: Gate>(
     steps: &mut Steps<L>,
     gate: &G,
 ) -> Result<Output, NoMemory>
-    requires normal { A.normal automaton.old ≡ accepted.now.normal }
+    requires normal { (A.told automaton.old).normal ≡ accepted.now.normal }
     requires form { IsAcceptedForm accepted.now.grammar accepted.now.normal }
     requires valid { IsValidForest accepted.now.grammar forest.now }
     ensures { IfOk result (λ output. AreAnswered accepted.now.grammar told forest.now.trees output.covered output.text.items) }
@@ -104,7 +104,7 @@ fn sum_made_by<A: Automaton, L: Ledger, G: Gate>(
     steps: &mut Steps<L>,
     gate: &G,
 ) -> Result<Output, NoMemory>
-    requires normal { A.normal automaton.old ≡ accepted.now.normal }
+    requires normal { (A.told automaton.old).normal ≡ accepted.now.normal }
     requires form { IsAcceptedForm accepted.now.grammar accepted.now.normal }
     requires settings { AreWithinBounds settings }
     ensures { IfOk result (λ output. IsOutput (Make settings.seed settings.trees settings.size) accepted.now.grammar None output.covered output.text.items) }

@@ -1,5 +1,5 @@
 -- Labels of nodes, and of their kids.
-use Rattle.std.specs.Prelude.{◌≡◌, ℕ, Option, Some, None, List, [], ◌∷◌}
+use Rattle.std.specs.Prelude.{◌≡◌, ℕ, Bool, true, false, Option, Some, None, List, [], ◌∷◌}
 use Rattle.sel_range.specs.Classes.{Occurs}
 use Rattle.sel_normal.specs.declared.normal.Body.TheVariants.{Operator}
 use Rattle.sel_normal.specs.declared.normal.NormalRule.{NormalRule}
@@ -12,6 +12,11 @@ use Rattle.sel_items.specs.CostBounds.{IsKidSet}
 abbrev pub IsPlain : Label → Type 0
 IsPlain (Numbered n) = ⊥
 IsPlain (Plain p) = Unit {0}
+
+-- whether the label is plain
+abbrev pub is_plain : Label → Bool
+is_plain (Numbered n) = false
+is_plain (Plain p) = true
 
 abbrev pub IsNumbered : Label → Type 0
 IsNumbered (Numbered n) = Unit {0}

@@ -6,3 +6,4 @@ pub mod Keys
 pub mod NewLabels
 pub mod NodeTrees
 pub mod Whole
+pub mod Tabled

@@ -1,8 +1,9 @@
 // The labels of a tree's nodes.
-ghost use Rattle.std.specs.Prelude.{◌≡◌, ◌+◌, ◌<◌, ◌≤◌, ◌^◌, ◌∷◌, ◌++◌, [], length, IfOk};
+ghost use Rattle.std.specs.Prelude.{◌≡◌, ◌+◌, ◌<◌, ◌≤◌, ◌^◌, ◌∷◌, ◌++◌, [], length, count_by, IfOk};
 ghost use Rattle.sel_grammar.specs.declared.grammar.Grammar.{Grammar};
 ghost use Rattle.sel_forest.specs.Valid.{IsValidTree};
 ghost use Rattle.sel_items.specs.Automata.{Grows, Keeps, IsHit};
+ghost use Rattle.sel_items.specs.Labels.{is_plain};
 ghost use Rattle.sel_items.specs.Laws.{IsAcceptedForm};
 ghost use Rattle.sel_label.specs.Labelling.{AreLabelled, AddsNumberedKeys, AddsOfTree, AreAllNumbered, AreAllReady};
 ghost use Rattle.sel_label.specs.Fronts.{AreLabelledTo, AddsBefore};
@@ -19,6 +20,25 @@ use std::sync::ledger::Ledger;
 #[derive(Debug, Drop)]
 pub struct Labels {
     pub of: List<Label>,
+}
+
+fn is_plain(label: Label) -> bool
+    ensures { result ≡ is_plain label }
+{
+    match label {
+        Label::Numbered(_) => false,
+        Label::Plain(_) => true,
+    }
+}
+
+impl Labels {
+    /// How many of the labels are plain.
+    pub fn plain(&self) -> usize
+        ensures { result ≡ count_by is_plain self.now.of }
+    {
+        let labels = self.of.as_slice();
+        labels.iter().filter(|label| is_plain(**label)).count()
+    }
 }
 
 /// A label for the tree's first node that has none yet, where `labels` are those of the nodes before it.

@@ -3,5 +3,6 @@
 
 mod kids;
 mod labels;
+pub mod laws;
 
 pub use labels::{Labels, label_tree};

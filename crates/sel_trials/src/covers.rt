@@ -24,11 +24,11 @@ pub fn by_labels<A: Automaton, L: Ledger>(
     tree: &Tree,
     steps: &mut Steps<L>,
 ) -> Result<Option<Cover>, NoMemory>
-    requires normal { A.normal automaton.old ≡ accepted.now.normal }
+    requires normal { (A.told automaton.old).normal ≡ accepted.now.normal }
     requires form { IsAcceptedForm accepted.now.grammar accepted.now.normal }
     requires tree { IsValidTree accepted.now.grammar tree.now }
     ensures answer { IfOk result (λ answer. (t : PlainTree) → IsPostorderOf tree.now t → IsAnswer accepted.now.grammar t answer) }
-    ensures normal { A.normal automaton.new ≡ A.normal automaton.old }
+    ensures normal { (A.told automaton.new).normal ≡ (A.told automaton.old).normal }
 {
     let Accepted { grammar, normal } = accepted;
     let labels = label_tree(automaton, alloc, normal, tree, steps)?;

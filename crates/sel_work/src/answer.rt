@@ -12,6 +12,13 @@ pub enum Goal {
     Text,
 }
 
+/// The answer of a tree, and how many of its nodes have plain labels.
+#[derive(Debug, Drop)]
+pub struct Answered {
+    pub answer: Answer,
+    pub plain_nodes: usize,
+}
+
 /// What is answered of a tree. A cost is that of the best derivation from the start symbol.
 #[derive(Debug, Drop)]
 pub enum Answer {

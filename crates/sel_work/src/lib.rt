@@ -5,5 +5,5 @@ mod answer;
 pub mod laws;
 mod tree;
 
-pub use answer::{Answer, Goal};
+pub use answer::{Answer, Answered, Goal};
 pub use tree::answer_tree;

@@ -6,5 +6,5 @@ abbrev pub invariant-trees : goal.invariant-trees
 invariant-trees g l = record {
   told : AreTold l.accepted.grammar (take l.tree-index l.tree-items) l.telling;
   same_told : l.telling.told ≡ l.fn.told;
-  same_normal : g.A.Automaton.normal l.automaton ≡ l.accepted.normal;
+  same_normal : (g.A.Automaton.told l.automaton).normal ≡ l.accepted.normal;
 }

@@ -12,7 +12,7 @@ invariant-trees g l = record {
       × (length so_far + (l.maker).left ≤ l.fn.settings.trees));
   same_told : l.telling.told ≡ told.Summary;
   own : (l.maker).grammar ≡ l.accepted.grammar;
-  same_normal : g.A.Automaton.normal l.automaton ≡ l.accepted.normal;
+  same_normal : (g.A.Automaton.told l.automaton).normal ≡ l.accepted.normal;
 }
 
 abbrev pub decreases-trees : goal.decreases-trees
