@@ -21,3 +21,4 @@ pub mod Turns
 pub mod Widths
 pub mod WordBounds
 pub mod Telling
+pub mod SaidEntries

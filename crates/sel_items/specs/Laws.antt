@@ -18,7 +18,8 @@ use Rattle.sel_items.specs.ChainClosing.{IsClosedFrom}
 use Rattle.sel_items.specs.CostBounds.{AreBelow, IsKidSet}
 use Rattle.sel_items.specs.Follows.{NodeKey, IsCandidate, IsAbsolute, Follows}
 use Rattle.sel_items.specs.ItemsOf.{IsItemsOf, IsKeyOf, attribute_number}
-use Rattle.sel_items.specs.Words.{FitsWords, IsPackable}
+use Rattle.sel_items.specs.Unpacking.{unpacked}
+use Rattle.sel_items.specs.Words.{FitsWords, IsPackable, IsWordOf}
 
 -- A grammar that is lawful and accepted, the costs of its rules within their limit, and its normal form.
 pub record IsAcceptedForm (g : Grammar) (normal : NormalForm) : Type 0 where
@@ -59,6 +60,10 @@ EntriesHaveRules = (normal : NormalForm) (key : NodeKey) (items : Items) (n : �
 -- So each entry has a word where the costs of the item set fit words.
 abbrev pub FittingSetsHaveWords : Type 0
 FittingSetsHaveWords = (normal : NormalForm) (key : NodeKey) (items : Items) (n : ℕ) → IsStanding normal → Follows normal key items → FitsWords items → IsPackable (item_at items.entries n)
+
+-- A word of an entry that has one says the entry.
+abbrev pub WordsSayEntries : Type 0
+WordsSayEntries = (word : ℕ) (entry : Option Item) → IsPackable entry → IsWordOf entry word → unpacked word ≡ entry
 
 -- the least candidate without chain rules, or nothing where there is none
 abbrev pub IsOperatorEntry : NormalForm → NodeKey → ℕ → Option Item → Type 0

@@ -1,5 +1,5 @@
 //! Laws of item sets. The functions do nothing: their contracts say them.
-ghost use Rattle.sel_items.specs.Laws.{ItemsFollow, ItemsOfFollow, FollowsIsOne, ItemsAreOne, ItemsExist, ItemsAreKidSets, EntriesHaveRules, FittingSetsHaveWords, ClosedAreAbsolute};
+ghost use Rattle.sel_items.specs.Laws.{ItemsFollow, ItemsOfFollow, FollowsIsOne, ItemsAreOne, ItemsExist, ItemsAreKidSets, EntriesHaveRules, FittingSetsHaveWords, WordsSayEntries, ClosedAreAbsolute};
 
 /// What follows from the item sets of a node's kids is the item set of the node.
 pub fn items_follow()
@@ -36,6 +36,11 @@ pub fn items_are_kid_sets()
 pub fn entries_have_rules()
     ensures rules { EntriesHaveRules }
     ensures words { FittingSetsHaveWords }
+{}
+
+/// A word of an entry that has one says the entry, so two entries with one word are one.
+pub fn words_say_entries()
+    ensures { WordsSayEntries }
 {}
 
 /// The least candidates without chain rules, closed under the chain rules, are the least candidates of

@@ -1,3 +1,4 @@
 pub mod OneAnswer
 pub mod BestAnswers
 pub mod Kept
+pub mod SomeAnswer
