@@ -20,7 +20,6 @@ pub mod OneForest
 pub mod Faultless
 pub mod OneFault
 pub mod SomeAnswer
-pub mod SmallGrammars
 pub mod Walking
 pub mod Leading
 pub mod Rereading

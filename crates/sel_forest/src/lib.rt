@@ -27,8 +27,3 @@ pub use refusal::{ForestFault, ForestRefusal};
 pub use reprint::reprint_forest;
 pub use sel_grammar::Attribute;
 pub use walk::{Goal, fits_at, in_range, met, node_at, push_goals, rule_of};
-
-#[cfg(test)]
-mod tests;
-#[cfg(test)]
-mod tests_covers;

@@ -33,6 +33,3 @@ mod words;
 
 pub use print::print_grammar;
 pub use read::read_grammar;
-
-#[cfg(test)]
-mod tests;

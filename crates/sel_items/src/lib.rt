@@ -22,10 +22,3 @@ pub use label::Label;
 pub use packing::{pack, unpack};
 pub use reduction::relative;
 pub use same::equal_are_same;
-
-#[cfg(test)]
-mod tests_lawful;
-#[cfg(test)]
-mod tests_packing;
-#[cfg(test)]
-mod tests_sets;

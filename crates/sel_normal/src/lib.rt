@@ -10,8 +10,3 @@ mod reach;
 
 pub use normal::{Body, Normal, NormalRule};
 pub use sel_range::Classes;
-
-#[cfg(test)]
-mod tests;
-#[cfg(test)]
-mod tests_lawful;
