@@ -11,11 +11,11 @@ use Rattle.sel_items.specs.declared.items.Items.{Items}
 use Rattle.sel_items.specs.declared.label.Label.{Label}
 use Rattle.sel_items.specs.declared.label.Label.TheVariants.{Numbered}
 use Rattle.sel_items.specs.Automata.{Told, StaysTrue, KeepsMeanings, KeepsMark, Keeps}
-use Rattle.sel_items.specs.Follows.{NodeKey}
+use Rattle.sel_items.specs.Follows.{NodeKey, Follows}
 use Rattle.sel_items.specs.ItemsOf.{IsKeyOf}
 use Rattle.sel_items.specs.Labels.{IsNumbered}
-use Rattle.sel_label.specs.Labelling.{StandsBelow, LabelAt, IsOfNumber, IsHeld, AreHeldBelow, AreNumberedBelow, AddsKeysOf, AddsHeldKeys, AddsNumberedKeys, AddsOfTree, AreAllNumbered}
-use Rattle.sel_label.specs.Fronts.{IsNodeLabelled, AreLabelledTo, IsKeyBefore, AddsKeysBefore, AddsBefore}
+use Rattle.sel_label.specs.Labelling.{StandsBelow, LabelAt, IsOfNumber, IsHeld, AreHeldBelow, AreNumberedBelow, AddsKeysOf, AddsHeldKeys, AddsNumberedKeys, IsAskedKey, AddsOfTree, AreAllNumbered}
+use Rattle.sel_label.specs.Fronts.{IsNodeLabelled, AreLabelledTo, IsKeyBefore, AddsKeysBefore, AddsSetsBefore, AddsBefore}
 
 -- a node below stands before
 under : (i j k : ℕ) (A B : Type 0) → k < i → ((k ≡ j) × A) ⊎ B → (B → j < k) → j < i
@@ -155,12 +155,38 @@ module _ (g : Grammar) (nodes : List Node) where
       subst (λ x. AddsKeysBefore g K nodes x (length x) first new) (sym q)
       (subst (λ n. AddsKeysBefore g K nodes (ls ++ l ∷ []) n first new) (sym (length_push ls l)) (asked_step H K ls sl (l ∷ []) first old new f e a b))
 
+  key_from : (H K : Items → Type 0) (labels ys : List Label) (n m : ℕ) (k : NodeKey) (first old : NodeKey → Type 0) → StaysTrue H K → n ≤ m → m ≤ length labels + 1
+      → AddsKeysBefore g H nodes labels n first old → old k ⊎ IsKeyBefore g K nodes labels m k → first k ⊎ IsKeyBefore g K nodes (labels ++ ys) m k
+  key_from H K labels ys n m k first old f le few a (inr h) = inr (key_before K K labels ys m m k (λ i x. x) (omega arith) few h)
+  key_from H K labels ys n m k first old f le few a (inl h) = go (a k h)
+    where
+      go : first k ⊎ IsKeyBefore g H nodes labels n k → first k ⊎ IsKeyBefore g K nodes (labels ++ ys) m k
+      go (inl x) = inl x
+      go (inr x) = inr (key_before H K labels ys n m k f le (omega arith) x)
+
+  sets_more : (first old new : Told) (ls ys : List Label) → Keeps old new → AddsKeysBefore g (IsOfNumber old) nodes ls (length ls) first.asked old.asked → AddsSetsBefore g nodes ls (length ls) first old → AddsSetsBefore g nodes ls (length ls + 1) old new
+      → AddsSetsBefore g nodes (ls ++ ys) (length ls + 1) first new
+  sets_more first old new ls ys keeps asked a b i h = go (b i h)
+    where
+      back : first.held i ⊎ ((k : NodeKey) × (first.asked k ⊎ IsKeyBefore g (IsOfNumber old) nodes ls (length ls) k) × Follows old.normal k i)
+          → first.held i ⊎ ((k : NodeKey) × (first.asked k ⊎ IsKeyBefore g (IsOfNumber new) nodes (ls ++ ys) (length ls + 1) k) × Follows new.normal k i)
+      back (inl x) = inl x
+      back (inr (k, inl x, follows)) = inr (k, inl x, subst (λ n. Follows n k i) (sym keeps.normal) follows)
+      back (inr (k, inr x, follows)) =
+          inr (k, inr (key_before (IsOfNumber old) (IsOfNumber new) ls ys (length ls) (length ls + 1) k (number_more old new keeps) (omega arith) (omega arith) x), subst (λ n. Follows n k i) (sym keeps.normal) follows)
+
+      go : old.held i ⊎ ((k : NodeKey) × (old.asked k ⊎ IsKeyBefore g (IsOfNumber new) nodes ls (length ls + 1) k) × Follows new.normal k i)
+          → first.held i ⊎ ((k : NodeKey) × (first.asked k ⊎ IsKeyBefore g (IsOfNumber new) nodes (ls ++ ys) (length ls + 1) k) × Follows new.normal k i)
+      go (inl x) = back (a i x)
+      go (inr (k, from, follows)) = inr (k, key_from (IsOfNumber old) (IsOfNumber new) ls ys (length ls) (length ls + 1) k first.asked old.asked (number_more old new keeps) (omega arith) (omega arith) asked from, follows)
+
   -- so what two steps added
   pub adds_step : (first old new : Told) (ls sl ys : List Label) → Keeps old new → sl ≡ ls → AddsBefore g nodes ls (length ls) first old → AddsBefore g nodes sl (length sl + 1) old new
       → AddsBefore g nodes (ls ++ ys) (length ls + 1) first new
   adds_step first old new ls sl ys keeps e a b = record {
     asked = asked_step (IsOfNumber old) (IsOfNumber new) ls sl ys first.asked old.asked new.asked (number_more old new keeps) e a.asked b.asked;
     known = known_more first.known old.known new.known a.known b.known;
+    held = sets_more first old new ls ys keeps a.asked a.held (subst (λ x. AddsSetsBefore g nodes x (length x + 1) old new) e b.held);
   }
 
   pub adds_pushed : (first old new : Told) (ls sl pushed : List Label) (l : Label) → Keeps old new → sl ≡ ls → pushed ≡ ls ++ l ∷ [] → AddsBefore g nodes ls (length ls) first old → AddsBefore g nodes sl (length sl + 1) old new
@@ -168,14 +194,26 @@ module _ (g : Grammar) (nodes : List Node) where
   adds_pushed first old new ls sl pushed l keeps e q a b = record {
     asked = asked_pushed (IsOfNumber old) (IsOfNumber new) ls sl pushed l first.asked old.asked new.asked (number_more old new keeps) e q a.asked b.asked;
     known = known_more first.known old.known new.known a.known b.known;
+    held = subst (λ x. AddsSetsBefore g nodes x (length x) first new) (sym q)
+        (subst (λ n. AddsSetsBefore g nodes (ls ++ l ∷ []) n first new) (sym (length_push ls l)) (sets_more first old new ls (l ∷ []) keeps a.asked a.held (subst (λ x. AddsSetsBefore g nodes x (length x + 1) old new) e b.held)));
   }
 
   pub adds_whole : (first new : Told) (labels : List Label) (n : ℕ) → AddsBefore g nodes labels n first new → new.plain_labels ≤ length nodes → AddsOfTree g nodes first new
   adds_whole first new labels n a few = record {
     asked = held_keys (IsOfNumber new) (IsOfNumber new) labels n first.asked new.asked (λ i h. h) a.asked;
     known = a.known;
+    held = λ i h. sets_of i (a.held i h);
     plain_labels = few;
   }
+    where
+      key_of_tree : (k : NodeKey) → first.asked k ⊎ IsKeyBefore g (IsOfNumber new) nodes labels n k → first.asked k ⊎ IsAskedKey g (IsOfNumber new) nodes k
+      key_of_tree k (inl x) = inl x
+      key_of_tree k (inr (i, lt, (u, root, is, held, numbered))) = inr (i, (u, root, is, held))
+
+      sets_of : (i : Items) → first.held i ⊎ ((k : NodeKey) × (first.asked k ⊎ IsKeyBefore g (IsOfNumber new) nodes labels n k) × Follows new.normal k i)
+          → first.held i ⊎ ((k : NodeKey) × (first.asked k ⊎ IsAskedKey g (IsOfNumber new) nodes k) × Follows new.normal k i)
+      sets_of i (inl x) = inl x
+      sets_of i (inr (k, from, follows)) = inr (k, key_of_tree k from, follows)
 
 pub all_pushed : (ls pushed : List Label) (l : Label) → pushed ≡ ls ++ l ∷ [] → IsNumbered l → AreAllNumbered ls → AreAllNumbered pushed
 all_pushed ls pushed l e n h = subst AreAllNumbered (sym e) (go ls h)

@@ -9,7 +9,7 @@ use Rattle.sel_items.specs.declared.items.Items.{Items}
 use Rattle.sel_items.specs.declared.label.Label.{Label}
 use Rattle.sel_items.specs.declared.label.Label.TheVariants.{Numbered, Plain}
 use Rattle.sel_items.specs.Automata.{Told, IsLabelled, IsOwnKey, Keeps, AddsOwn}
-use Rattle.sel_items.specs.Follows.{NodeKey, key_of}
+use Rattle.sel_items.specs.Follows.{NodeKey, key_of, Follows}
 use Rattle.sel_items.specs.ItemsOf.{IsItemsOf, IsKeyOf}
 use Rattle.sel_items.specs.Labels.{IsPlain, IsNumbered, KidsAre}
 use Rattle.sel_items.specs.Laws.{IsAcceptedForm}
@@ -83,6 +83,11 @@ module _ (g : Grammar) (nodes : List Node) (told told' : Told) (labels : List La
   new_known k (inl h) = inl h
   new_known k (inr (n, (kids, are, e))) = inr (length labels, (u, root, own_key k kids are e))
 
+  new_held : (i : Items) → told.held i ⊎ ((k : NodeKey) × (told.asked k ⊎ IsOwnKey told a.operator a.class a.first a.second k) × Follows told.normal k i)
+      → told.held i ⊎ ((k : NodeKey) × (told.asked k ⊎ IsKeyBefore g (IsOfNumber told') nodes labels (length labels + 1) k) × Follows told'.normal k i)
+  new_held i (inl h) = inl h
+  new_held i (inr (k, from, follows)) = inr (k, new_asked k from, subst (λ n. Follows n k i) (sym keeps.normal) follows)
+
   -- what the call for the node adds
   pub new_adds : AddsOwn told told' a.operator a.class a.first a.second → AddsBefore g nodes labels (length labels + 1) told told'
-  new_adds adds = record { asked = λ k h. new_asked k (adds.asked k h); known = λ k h. new_known k (adds.known k h) }
+  new_adds adds = record { asked = λ k h. new_asked k (adds.asked k h); known = λ k h. new_known k (adds.known k h); held = λ i h. new_held i (adds.held i h) }

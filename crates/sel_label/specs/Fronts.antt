@@ -7,7 +7,7 @@ use Rattle.sel_forest.specs.Places.{IsRootAt}
 use Rattle.sel_items.specs.declared.items.Items.{Items}
 use Rattle.sel_items.specs.declared.label.Label.{Label}
 use Rattle.sel_items.specs.Automata.{Told}
-use Rattle.sel_items.specs.Follows.{NodeKey}
+use Rattle.sel_items.specs.Follows.{NodeKey, Follows}
 use Rattle.sel_items.specs.ItemsOf.{IsItemsOf, IsKeyOf}
 use Rattle.sel_items.specs.Labels.{IsNumbered}
 use Rattle.sel_items.specs.Tabled.{IsTabled}
@@ -38,7 +38,12 @@ IsKeyBefore g held nodes labels n k = (i : ℕ) × (i < n) × ((u : PlainTree) �
 abbrev pub AddsKeysBefore : Grammar → (Items → Type 0) → List Node → List Label → ℕ → (NodeKey → Type 0) → (NodeKey → Type 0) → Type 0
 AddsKeysBefore g held nodes labels n old new = (k : NodeKey) → new k → old k ⊎ IsKeyBefore g held nodes labels n k
 
+-- an item set that is held was so before, or follows from a key that was asked before or is such a key
+abbrev pub AddsSetsBefore : Grammar → List Node → List Label → ℕ → Told → Told → Type 0
+AddsSetsBefore g nodes labels n old new = (i : Items) → new.held i → old.held i ⊎ ((k : NodeKey) × (old.asked k ⊎ IsKeyBefore g (IsOfNumber new) nodes labels n k) × Follows new.normal k i)
+
 -- What labelling the first nodes, before n, adds to what is told.
 pub record AddsBefore (g : Grammar) (nodes : List Node) (labels : List Label) (n : ℕ) (old new : Told) : Type 0 where
   pub asked : AddsKeysBefore g (IsOfNumber new) nodes labels n old.asked new.asked
   pub known : AddsKeysOf g nodes old.known new.known
+  pub held : AddsSetsBefore g nodes labels n old new

@@ -8,7 +8,7 @@ use Rattle.sel_items.specs.declared.items.Items.{Items}
 use Rattle.sel_items.specs.declared.label.Label.{Label}
 use Rattle.sel_items.specs.declared.label.Label.TheVariants.{Numbered}
 use Rattle.sel_items.specs.Automata.{Told}
-use Rattle.sel_items.specs.Follows.{NodeKey}
+use Rattle.sel_items.specs.Follows.{NodeKey, Follows}
 use Rattle.sel_items.specs.ItemsOf.{IsItemsOf, IsKeyOf}
 use Rattle.sel_items.specs.Labels.{IsNumbered}
 use Rattle.sel_items.specs.Tabled.{IsTabled}
@@ -84,10 +84,11 @@ AddsNumberedKeys g nodes labels old new = (k : NodeKey) → new k → old k ⊎ 
 abbrev pub AddsKeysOf : Grammar → List Node → (NodeKey → Type 0) → (NodeKey → Type 0) → Type 0
 AddsKeysOf g nodes old new = (k : NodeKey) → new k → old k ⊎ ((i : ℕ) × ((u : PlainTree) × IsRootAt nodes i u × IsKeyOf g u k))
 
--- What labelling the tree adds to what is told: keys of its nodes alone are asked and known, those that are asked are of nodes below which all item sets are held and of numbers, and there are no more plain labels than nodes.
+-- What labelling the tree adds to what is told: keys of its nodes alone are asked and known, those that are asked are of nodes below which all item sets are held and of numbers, nothing is held but what follows from an asked key, and there are no more plain labels than nodes.
 pub record AddsOfTree (g : Grammar) (nodes : List Node) (old new : Told) : Type 0 where
   pub asked : AddsHeldKeys g (IsOfNumber new) nodes old.asked new.asked
   pub known : AddsKeysOf g nodes old.known new.known
+  pub held : (i : Items) → new.held i → old.held i ⊎ ((k : NodeKey) × (old.asked k ⊎ IsAskedKey g (IsOfNumber new) nodes k) × Follows new.normal k i)
   pub plain_labels : new.plain_labels ≤ length nodes
 
 -- each label is numbered

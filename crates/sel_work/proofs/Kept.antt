@@ -1,5 +1,5 @@
 -- What is kept of a labelled tree where its labels were read since.
-use Rattle.std.proofs.Common.{◌≡◌, ◌⊎◌, ℕ, List, Result, Ok, Err, OnOk, sym, ◌∙◌, inl, inr, arith}
+use Rattle.std.proofs.Common.{◌≡◌, ◌⊎◌, ℕ, List, Result, Ok, Err, OnOk, sym, subst, ◌∙◌, inl, inr, arith}
 use Rattle.std.specs.Prelude.{count_by}
 use Rattle.sel_grammar.specs.declared.grammar.Grammar.{Grammar}
 use Rattle.sel_grammar.specs.PlainTrees.{PlainTree, Node0, Node1, Node2}
@@ -8,7 +8,7 @@ use Rattle.sel_items.specs.declared.items.Items.{Items}
 use Rattle.sel_items.specs.declared.label.Label.{Label}
 use Rattle.sel_items.specs.declared.label.Label.TheVariants.{Numbered}
 use Rattle.sel_items.specs.Automata.{Told, IsRead}
-use Rattle.sel_items.specs.Follows.{NodeKey}
+use Rattle.sel_items.specs.Follows.{NodeKey, Follows}
 use Rattle.sel_items.specs.Labels.{is_plain}
 use Rattle.sel_label.specs.Labelling.{AreLabelled, IsHeld, AreHeldBelow, IsAskedKey, IsOfNumber, AddsOfTree}
 use Rattle.sel_work.specs.Kept.{AreTabledKept, IsPlainCount}
@@ -31,6 +31,7 @@ module _ (g : Grammar) (nodes : List Node) (first mid last : Told) (read : IsRea
   adds_read adds = record {
     asked = λ k h. asked k (adds.asked k (read.tables.asked.1 k h));
     known = λ k h. adds.known k (read.tables.known.1 k h);
+    held = λ i h. sets i (adds.held i (read.tables.held.1 i h));
     plain_labels = omega (arith, adds.plain_labels, read.plain_labels);
   }
     where
@@ -38,6 +39,11 @@ module _ (g : Grammar) (nodes : List Node) (first mid last : Told) (read : IsRea
       asked k (inl h) = inl h
       asked k (inr (i, (u, root, key, held))) =
           inr (i, (u, root, key, below g (IsOfNumber mid) (IsOfNumber last) (λ x h. (read.tables.held.0 x h.0, (h.1.0, read.means (Numbered h.1.0) x h.1.1))) u held))
+
+      sets : (i : Items) → first.held i ⊎ ((k : NodeKey) × (first.asked k ⊎ IsAskedKey g (IsOfNumber mid) nodes k) × Follows mid.normal k i)
+          → first.held i ⊎ ((k : NodeKey) × (first.asked k ⊎ IsAskedKey g (IsOfNumber last) nodes k) × Follows last.normal k i)
+      sets i (inl h) = inl h
+      sets i (inr (k, from, follows)) = inr (k, asked k from, subst (λ n. Follows n k i) (sym read.tables.normal) follows)
 
   module _ (labels : List Label) (h : AreLabelled g nodes mid labels) where
     labelled_read : AreLabelled g nodes last labels
