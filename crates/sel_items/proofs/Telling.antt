@@ -1,5 +1,5 @@
 -- How what an automaton tells changes over several calls. It is for the crates that call one.
-use Rattle.std.proofs.Common.{sym, ◌∙◌, refl}
+use Rattle.std.proofs.Common.{◌∙◌, refl}
 use Rattle.sel_items.specs.declared.label.Label.TheVariants.{Numbered}
 use Rattle.sel_items.specs.Automata.{Told, Keeps, Grows, AreTablesSame, BeginsTree, IsRead}
 

@@ -1,5 +1,5 @@
 -- The closing of entries under the chain rules, by candidates: any list of chain rules, ended by a given entry.
-use Rattle.std.specs.Prelude.{◌≡◌, ℕ, ◌+◌, ◌*◌, Option, Some, None, List, [], ◌∷◌, length}
+use Rattle.std.specs.Prelude.{◌≡◌, ℕ, Option, Some, None, List, [], ◌∷◌, length}
 use Rattle.sel_grammar.specs.Costs.{Cost, ◌⊕◌, paid}
 use Rattle.sel_normal.specs.declared.normal.Body.TheVariants.{Chain}
 use Rattle.sel_normal.specs.declared.normal.NormalRule.{NormalRule}
