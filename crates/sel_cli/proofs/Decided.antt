@@ -16,16 +16,16 @@ use Rattle.sel_forest.specs.ForestText.{SpellsForest, IsForestFault}
 use Rattle.sel_forest.proofs.OneForest.{forest_one}
 use Rattle.sel_forest.proofs.OneFault.{fault_one as forest_fault_one, not_forest_and_fault}
 use Rattle.sel_forest.proofs.Roots.{plain_one}
-use Rattle.sel_cli.specs.Words.{Job, PrintGrammar, Make, OverForest, GrammarSource, Held, Shipped, Task, forest_name}
-use Rattle.sel_cli.specs.declared.words.Mode.TheVariants as mode
+use Rattle.sel_words.specs.Words.{Job, PrintGrammar, Make, OverForest, GrammarSource, Held, Shipped, Task, forest_name}
+use Rattle.sel_words.specs.declared.words.Mode.TheVariants as mode
 use Rattle.sel_work.specs.declared.answer.Answer.{Answer}
 use Rattle.sel_work.specs.declared.answer.Goal.{Goal}
 use Rattle.sel_work.specs.Answers.{IsTreeAnswer}
 use Rattle.sel_work.proofs.OneAnswer.{answer_one}
 use Rattle.sel_gen.proofs.OneForest.{made_one_forest}
-use Rattle.sel_cli.specs.declared.told.Told.{Told}
-use Rattle.sel_cli.specs.declared.told.Told.TheVariants as told
-use Rattle.sel_cli.specs.Output.{AreAnswers, AreAnswered, IsTreesAnswer, IsOutput, goal_of, is_covered}
+use Rattle.sel_answers.specs.declared.told.Told.{Told}
+use Rattle.sel_answers.specs.declared.told.Told.TheVariants as told
+use Rattle.sel_answers.specs.Output.{AreAnswers, AreAnswered, IsTreesAnswer, IsOutput, goal_of, is_covered}
 use Rattle.sel_cli.specs.Texts.{Request, IsTold, MayBe, IsGrammarText, HasGrammarText, HasForestText, AcceptsGrammar, Accepts, IsTooLong, IsRefusedGrammar, RefusesGrammar, RefusesForest, IsWhole, grammar_limit, forest_limit}
 use Rattle.sel_cli.specs.Ends.{Reads, EndsFor, Decides, IsExcused, IsAnswered, finished}
 use Rattle.sel_cli.specs.declared.status.Status.{Status}

@@ -9,8 +9,8 @@ use Rattle.sel_grammar.specs.declared.refusal.GrammarRefusal.TheVariants as refu
 use Rattle.sel_grammar_text.specs.GrammarText.{SpellsGrammar}
 use Rattle.sel_normal.specs.NormalFaults.{NormalRefusedFor}
 use Rattle.sel_forest.specs.declared.forest.Forest.{Forest}
-use Rattle.sel_cli.specs.Words.{Job, GrammarSource, Held, Shipped, held_under, Task, forest_name, last_name}
-use Rattle.sel_cli.specs.Output.{IsOutput}
+use Rattle.sel_words.specs.Words.{Job, GrammarSource, Held, Shipped, held_under, Task, forest_name, last_name}
+use Rattle.sel_answers.specs.Output.{IsOutput}
 use Rattle.sel_cli.specs.Texts.{Request, MayBe, IsGrammarText, AcceptsGrammar, Accepts, grammar_limit, forest_limit}
 use Rattle.sel_cli.specs.Ends.{Reads, StopsFor, EndsFor, WritesJobFor, IsFrontOf, WasRead, ReadsFor}
 use Rattle.sel_cli.specs.Parts.{FetchesFor, JudgedFor, PutsFor}

@@ -1,17 +1,4 @@
-pub mod Answering
-pub mod Summing
 pub mod Endings
 pub mod Decided
 pub mod Tells
 pub mod Joining
-pub mod ClapReading
-pub mod ClapTakes
-pub mod ClapValues
-pub mod ClapFaults
-pub mod ClapWords
-pub mod WordExamples
-pub mod Numbers
-pub mod Bounded
-pub mod Sources
-pub mod WordShapes
-pub mod SameParts

@@ -5,8 +5,8 @@ use Rattle.sel_base.specs.Causes.{Rose}
 use Rattle.sel_base.specs.Reads.{LastRead}
 use Rattle.sel_grammar.specs.declared.grammar.Grammar.{Grammar}
 use Rattle.sel_forest.specs.declared.forest.Forest.{Forest}
-use Rattle.sel_cli.specs.Words.{Job, Task, grammar_name, forest_name, last_name}
-use Rattle.sel_cli.specs.Output.{IsOutput}
+use Rattle.sel_words.specs.Words.{Job, Task, grammar_name, forest_name, last_name}
+use Rattle.sel_answers.specs.Output.{IsOutput}
 use Rattle.sel_cli.specs.Texts.{Request, IsTold, MayBe, AcceptsGrammar, Accepts, IsTooLong, RefusesGrammar, RefusesForest, IsWhole}
 use Rattle.sel_cli.specs.Lines.{status_line}
 use Rattle.sel_cli.specs.declared.status.Status.{Status}

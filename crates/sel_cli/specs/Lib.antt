@@ -1,11 +1,3 @@
-pub mod Split
-pub mod Settings
-pub mod Words
-pub mod Names
-pub mod CommandLine
-pub mod Found
-pub mod Output
-pub mod Telling
 pub mod Texts
 pub mod Code
 pub mod Lines

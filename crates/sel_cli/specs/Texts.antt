@@ -7,8 +7,8 @@ use Rattle.sel_normal.specs.NormalFaults.{IsAccepted, IsNormalFault}
 use Rattle.sel_forest.specs.declared.forest.Forest.{Forest}
 use Rattle.sel_forest.specs.declared.refusal.ForestFault.{ForestFault}
 use Rattle.sel_forest.specs.ForestText.{SpellsForest, IsForestFault}
-use Rattle.sel_cli.specs.Words.{Task, GrammarSource, Held, Shipped, grammar_name, forest_name}
-use Rattle.sel_cli.specs.Output.{IsOutput}
+use Rattle.sel_words.specs.Words.{Task, GrammarSource, Held, Shipped, grammar_name, forest_name}
+use Rattle.sel_answers.specs.Output.{IsOutput}
 
 -- the greatest length of a grammar's text, in bytes
 abbrev pub grammar_limit : ℕ

@@ -4,23 +4,21 @@ ghost use Rattle.sel_forest.specs.ForestText.{SpellsForest, IsForestRefusal};
 ghost use Rattle.sel_forest.specs.Valid.{IsValidForest};
 ghost use Rattle.sel_forest.specs.declared.forest.Forest.{Forest as AnyForest};
 ghost use Rattle.sel_items.specs.Laws.{IsAcceptedForm};
-ghost use Rattle.sel_cli.specs.Settings.{AreWithinBounds};
-ghost use Rattle.sel_cli.specs.Names.{task_for};
-ghost use Rattle.sel_cli.specs.Words.{OverForest};
-ghost use Rattle.sel_cli.specs.Output.{AreAnswered, IsOutput};
+ghost use Rattle.sel_words.specs.Settings.{AreWithinBounds};
+ghost use Rattle.sel_words.specs.Names.{task_for};
+ghost use Rattle.sel_words.specs.Words.{OverForest};
+ghost use Rattle.sel_answers.specs.Output.{AreAnswered, IsOutput};
 ghost use Rattle.sel_cli.specs.Texts.{MayBe, AcceptsGrammar, AcceptsForest, forest_limit};
 ghost use Rattle.sel_cli.specs.Ends.{StopsFor, WasRead, ReadsFor};
 
 use crate::forest_answers::answer_forest;
-use crate::output::Output;
-use crate::settings::Settings;
 use crate::status::Status;
 use crate::texts::{Accepted, fetch};
-use crate::told::Told;
-use crate::words::{Command, Mode};
+use sel_answers::{Output, Told};
 use sel_base::{Gate, Shelf};
 use sel_forest::{Forest, ForestRefusal, read_forest, reprint_forest};
 use sel_grammar::Grammar;
+use sel_words::{Command, Mode, Settings};
 use std::alloc::Global;
 
 /// The greatest length of a forest's text, in bytes.

@@ -1,8 +1,8 @@
 // Lists of words, with what they ask for. A list is written as one text, with a space between two words.
 use crate::run::run;
 use crate::status::Status;
-use crate::words::{Command, GrammarSource, Job, Mode, read_words};
 use sel_base::{MemoryShelf, MemorySink, OpenGate};
+use sel_words::{Command, GrammarSource, Job, Mode, read_words};
 use std::alloc::Global;
 use std::marker::Sync;
 use std::process::Abort;

@@ -2,19 +2,19 @@
 ghost use Rattle.std.specs.Prelude.{◌≡◌, ◌≤◌, Some, None, length, IfOk, IfErr, IfSome, IsErrOf, OnOk};
 ghost use Rattle.sel_grammar_text.specs.GrammarText.{SpellsGrammar};
 ghost use Rattle.sel_items.specs.Laws.{IsAcceptedForm};
-ghost use Rattle.sel_cli.specs.Names.{task_for, source_for, IsShort};
+ghost use Rattle.sel_words.specs.Names.{task_for, source_for, IsShort};
 ghost use Rattle.sel_cli.specs.Texts.{MayBe, HasGrammarText, AcceptsGrammar, grammar_limit};
 ghost use Rattle.sel_cli.specs.Ends.{StopsFor, WasRead, ReadsFor};
-ghost use Rattle.sel_cli.specs.Words.{Task, grammar_name};
+ghost use Rattle.sel_words.specs.Words.{Task, grammar_name};
 ghost use Rattle.sel_cli.specs.Parts.{FetchesFor, JudgedFor};
 
 use crate::status::Status;
-use crate::text::put;
-use crate::words::{Command, GrammarSource};
+use sel_answers::text::put;
 use sel_base::{NoMemory, Shelf, ShelfFault};
 use sel_grammar::{Grammar, GrammarRefusal};
 use sel_grammar_text::read_grammar;
 use sel_normal::Normal;
+use sel_words::{Command, GrammarSource};
 use std::alloc::Global;
 
 /// The greatest length of a grammar's text, in bytes.

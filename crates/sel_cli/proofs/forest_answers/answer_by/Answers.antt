@@ -1,8 +1,8 @@
 use Rattle.std.proofs.Common.{◌∙◌, ◌≤◌, subst, sym, length}
 use Rattle.std.proofs.lemmas.List.{take_all}
 use Rattle.sel_forest.specs.Limits.{most_trees}
-use Rattle.sel_cli.specs.Telling.{AreTold}
-use Rattle.sel_cli.proofs.Answering.{told_next, told_few, all_put}
+use Rattle.sel_answers.specs.Telling.{AreTold}
+use Rattle.sel_answers.proofs.Answering.{told_next, told_few, all_put}
 use Rattle.sel_cli.proofs.forest_answers.answer_by.Goals as goal
 
 pub trees-preserved : goal.trees-preserved

@@ -1,5 +1,5 @@
 use Rattle.std.proofs.Common.{◌≡◌, take}
-use Rattle.sel_cli.specs.Telling.{AreTold}
+use Rattle.sel_answers.specs.Telling.{AreTold}
 use Rattle.sel_cli.proofs.forest_answers.answer_by.Given as goal
 
 abbrev pub invariant-trees : goal.invariant-trees

@@ -1,4 +1,4 @@
-use Rattle.sel_cli.proofs.Answering.{told_more, answer_of_tree}
+use Rattle.sel_answers.proofs.Answering.{told_more, answer_of_tree}
 use Rattle.sel_cli.proofs.forest_answers.answer_next.Goals as goal
 
 pub returns-clause-told : goal.returns-clause-told

@@ -2,7 +2,7 @@ use Rattle.std.proofs.Common.{◌∙◌, ◌≡◌, ◌+◌, ◌++◌, ◌∷◌
 use Rattle.std.proofs.lemmas.List.{length_push}
 use Rattle.sel_forest.specs.declared.forest.Tree.{Tree}
 use Rattle.sel_gen.specs.Maker.{Maker, AreToCome}
-use Rattle.sel_cli.proofs.Answering.{none_told, made_next, told_count, all_put, made_put}
+use Rattle.sel_answers.proofs.Answering.{none_told, made_next, told_count, all_put, made_put}
 use Rattle.sel_cli.proofs.forest_answers.sum_made_by.Goals as goal
 
 pub trees-init : goal.trees-init

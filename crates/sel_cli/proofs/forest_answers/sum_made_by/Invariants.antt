@@ -2,8 +2,8 @@ use Rattle.std.proofs.Common.{◌≡◌, ◌+◌, ◌≤◌, ◌++◌, List, len
 use Rattle.sel_forest.specs.declared.forest.Tree.{Tree}
 use Rattle.sel_gen.specs.Made.{IsMadeForest}
 use Rattle.sel_gen.specs.Maker.{AreToCome}
-use Rattle.sel_cli.specs.Telling.{AreTold}
-use Rattle.sel_cli.specs.declared.told.Told.TheVariants as told
+use Rattle.sel_answers.specs.Telling.{AreTold}
+use Rattle.sel_answers.specs.declared.told.Told.TheVariants as told
 use Rattle.sel_cli.proofs.forest_answers.sum_made_by.Given as goal
 
 abbrev pub invariant-trees : goal.invariant-trees

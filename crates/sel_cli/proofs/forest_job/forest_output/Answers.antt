@@ -1,5 +1,5 @@
 use Rattle.std.proofs.Common.{ap}
-use Rattle.sel_cli.specs.Words.{forest_name}
+use Rattle.sel_words.specs.Words.{forest_name}
 use Rattle.sel_cli.proofs.Endings.{fetch_forest_stops}
 use Rattle.sel_cli.proofs.forest_job.forest_output.Goals as goal
 

@@ -1,10 +1,10 @@
 use Rattle.std.proofs.Common.{List, ℕ, Some, IfOk, subst, sym}
 use Rattle.sel_forest.specs.declared.forest.Forest.{Forest}
 use Rattle.sel_forest.specs.ForestText.{SpellsForest}
-use Rattle.sel_cli.specs.Words.{OverForest}
-use Rattle.sel_cli.specs.Output.{IsOutput}
-use Rattle.sel_cli.specs.declared.words.Mode.{Mode}
-use Rattle.sel_cli.specs.declared.words.Mode.TheVariants.{Print}
+use Rattle.sel_words.specs.Words.{OverForest}
+use Rattle.sel_answers.specs.Output.{IsOutput}
+use Rattle.sel_words.specs.declared.words.Mode.{Mode}
+use Rattle.sel_words.specs.declared.words.Mode.TheVariants.{Print}
 use Rattle.sel_cli.proofs.forest_job.output_over.Goals as goal
 
 pub returns-in-Print-clause-made : goal.returns-in-Print-clause-made

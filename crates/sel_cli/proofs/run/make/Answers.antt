@@ -1,5 +1,5 @@
 use Rattle.std.proofs.Common.{None}
-use Rattle.sel_cli.specs.Words.{Make}
+use Rattle.sel_words.specs.Words.{Make}
 use Rattle.sel_cli.proofs.Endings.{puts_job}
 use Rattle.sel_cli.proofs.run.make.Goals as goal
 

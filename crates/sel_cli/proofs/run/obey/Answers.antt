@@ -1,6 +1,6 @@
 use Rattle.std.proofs.Common.{map, option_map, string_bytes, sym, ap, ◌∙◌}
-use Rattle.sel_cli.specs.Names.{task_for}
-use Rattle.sel_cli.proofs.Bounded.{command_bounded}
+use Rattle.sel_words.specs.Names.{task_for}
+use Rattle.sel_words.proofs.Bounded.{command_bounded}
 use Rattle.sel_cli.proofs.run.obey.Goals as goal
 
 pub serve-requires-clause-settings : goal.serve-requires-clause-settings

@@ -1,6 +1,6 @@
 use Rattle.std.proofs.Common.{ap, None}
-use Rattle.sel_cli.specs.Names.{job_for}
-use Rattle.sel_cli.specs.Words.{forest_name}
+use Rattle.sel_words.specs.Names.{job_for}
+use Rattle.sel_words.specs.Words.{forest_name}
 use Rattle.sel_cli.proofs.Endings.{job_ends}
 use Rattle.sel_cli.proofs.run.serve.Goals as goal
 

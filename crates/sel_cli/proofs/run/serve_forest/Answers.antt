@@ -1,6 +1,6 @@
 use Rattle.std.proofs.Common.{ap, Some}
-use Rattle.sel_cli.specs.Words.{OverForest, forest_name, grammar_name, later_name}
-use Rattle.sel_cli.specs.Names.{task_for}
+use Rattle.sel_words.specs.Words.{OverForest, forest_name, grammar_name, later_name}
+use Rattle.sel_words.specs.Names.{task_for}
 use Rattle.sel_cli.proofs.Endings.{puts_job, job_ends, done_reads}
 use Rattle.sel_cli.proofs.run.serve_forest.Goals as goal
 

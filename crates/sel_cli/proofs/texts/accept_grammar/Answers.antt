@@ -1,5 +1,5 @@
 use Rattle.std.proofs.Common.{◌≡◌, refl, subst, rules}
-use Rattle.sel_cli.specs.Names.{task_for}
+use Rattle.sel_words.specs.Names.{task_for}
 use Rattle.sel_cli.specs.Texts.{IsRefusedGrammar}
 use Rattle.sel_cli.specs.Parts.{JudgedFor}
 use Rattle.sel_cli.proofs.texts.accept_grammar.Goals as goal

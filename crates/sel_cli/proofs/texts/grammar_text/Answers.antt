@@ -1,5 +1,5 @@
 use Rattle.std.proofs.Common.{refl, ap}
-use Rattle.sel_cli.specs.Names.{source_for, task_for}
+use Rattle.sel_words.specs.Names.{source_for, task_for}
 use Rattle.sel_cli.proofs.Endings.{held_stops}
 use Rattle.sel_cli.proofs.texts.grammar_text.Goals as goal
 

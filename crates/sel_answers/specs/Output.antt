@@ -1,0 +1,146 @@
+-- What is written: an answer for each tree, in order, a summary of all, or a grammar or forest in print.
+use Rattle.std.specs.Prelude.{◌≡◌, ℕ, ◌+◌, ◌-◌, Bool, true, false, not, ◌==◌, Option, Some, None, List, [], ◌∷◌, ◌++◌, length, slice_get, count_by, codes, decimal, if◌then◌else◌}
+use Rattle.std.specs.Fmt.{signed_decimal}
+use Rattle.std.specs.List.{list_all, list_any}
+use Rattle.sel_grammar.specs.declared.grammar.Grammar.{Grammar}
+use Rattle.sel_grammar.specs.declared.grammar.Rule.{Rule}
+use Rattle.sel_grammar.specs.Costs.{Cost, no_cost, ◌⊕◌}
+use Rattle.sel_grammar.specs.PlainTrees.{PlainTree}
+use Rattle.sel_forest.specs.declared.forest.Forest.{Forest}
+use Rattle.sel_forest.specs.declared.forest.Tree.{Tree}
+use Rattle.sel_forest.specs.Postorder.{IsPostorderOf}
+use Rattle.sel_forest.specs.Printed.{IsPrinted}
+use Rattle.sel_grammar_text.specs.PrintedGrammar.{printed}
+use Rattle.sel_work.specs.declared.answer.Answer.{Answer}
+use Rattle.sel_work.specs.declared.answer.Answer.TheVariants.{NoCover, Text, TooLong}
+use Rattle.sel_work.specs.declared.answer.Answer.TheVariants as answers
+use Rattle.sel_work.specs.declared.answer.Goal.{Goal}
+use Rattle.sel_work.specs.declared.answer.Goal.TheVariants as goals
+use Rattle.sel_work.specs.Answers.{IsTreeAnswer}
+use Rattle.sel_gen.specs.Made.{IsMadeForest}
+use Rattle.sel_words.specs.Words.{Job, PrintGrammar, Make, OverForest}
+use Rattle.sel_answers.specs.declared.told.Told.{Told}
+use Rattle.sel_answers.specs.declared.told.Told.TheVariants as told
+use Rattle.sel_words.specs.declared.words.Mode.TheVariants as mode
+
+-- the answer of the tree that the nodes spell
+abbrev pub IsTreesAnswer : Grammar → Goal → Tree → Answer → Type 0
+IsTreesAnswer g goal tree answer = (t : PlainTree) × IsPostorderOf tree t × IsTreeAnswer g goal t answer
+
+-- an answer for each tree, in their order
+abbrev pub AreAnswers : Grammar → Goal → List Tree → List Answer → Type 0
+AreAnswers g goal [] [] = Unit {0}
+AreAnswers g goal (tree ∷ trees) (answer ∷ answers) = IsTreesAnswer g goal tree answer × AreAnswers g goal trees answers
+AreAnswers g goal _ _ = ⊥
+
+-- whether some rule has a second cost
+abbrev pub has_second_costs : Grammar → Bool
+has_second_costs g = list_any (λ (rule : Rule). not (rule.cost.second == 0)) g.rules
+
+-- the first number, and the second behind a comma where some rule has one
+abbrev pub cost_text : Bool → Cost → List ℕ
+cost_text second c = if second then decimal c.first ++ (codes "," ++ signed_decimal c.second) else decimal c.first
+
+-- each number behind a space
+abbrev pub behind_spaces : List ℕ → List ℕ
+behind_spaces [] = []
+behind_spaces (n ∷ ns) = codes " " ++ (decimal n ++ behind_spaces ns)
+
+-- numbers with single spaces between them
+abbrev pub spaced : List ℕ → List ℕ
+spaced [] = []
+spaced (n ∷ ns) = decimal n ++ behind_spaces ns
+
+-- the line end behind a text whose last byte this is, where it isn't one itself; none behind an empty text
+abbrev pub line_end_after : Option ℕ → List ℕ
+line_end_after None = []
+line_end_after (Some b) = if b == 10 then [] else codes "\n"
+
+-- the line end behind a text that isn't empty and doesn't end with one
+abbrev pub line_end_behind : List ℕ → List ℕ
+line_end_behind text = line_end_after (slice_get text (length text - 1))
+
+-- the cost, up to the end of its line
+abbrev pub cost_line : Bool → Cost → List ℕ
+cost_line second c = codes " cost " ++ (cost_text second c ++ codes "\n")
+
+-- what is written of an answer behind the tree's number
+abbrev pub told_text : Bool → Answer → List ℕ
+told_text second NoCover = codes " no cover\n"
+told_text second (answers.Cover cover) = cost_line second cover.cost ++ (spaced cover.rules ++ codes "\n")
+told_text second (Text c text) = cost_line second c ++ (text ++ line_end_behind text)
+told_text second (TooLong c) = codes " too long\n"
+
+-- what is written of the tree of this number
+abbrev pub answer_text : Bool → ℕ → Answer → List ℕ
+answer_text second number answer = codes "; tree " ++ (decimal number ++ told_text second answer)
+
+-- the answer is a cover, or its text
+abbrev pub is_covered : Answer → Bool
+is_covered NoCover = false
+is_covered (answers.Cover cover) = true
+is_covered (Text c text) = true
+is_covered (TooLong c) = false
+
+-- of trees that are numbered from this number on
+abbrev pub answers_text : Bool → ℕ → List Answer → List ℕ
+answers_text second number [] = []
+answers_text second number (answer ∷ answers) = answer_text second number answer ++ answers_text second (number + 1) answers
+
+-- nothing derives the tree
+abbrev pub is_uncovered : Answer → Bool
+is_uncovered NoCover = true
+is_uncovered (answers.Cover cover) = false
+is_uncovered (Text c text) = false
+is_uncovered (TooLong c) = false
+
+-- what the answer adds to the sum of costs
+abbrev pub cost_of : Answer → Cost
+cost_of NoCover = no_cost
+cost_of (answers.Cover cover) = cover.cost
+cost_of (Text c text) = c
+cost_of (TooLong c) = c
+
+abbrev pub sum_of_costs : List Answer → Cost
+sum_of_costs [] = no_cost
+sum_of_costs (answer ∷ answers) = cost_of answer ⊕ sum_of_costs answers
+
+-- a line: a word, and what is told of it
+abbrev pub told_line : List ℕ → List ℕ → List ℕ
+told_line word text = word ++ (text ++ codes "\n")
+
+-- how many trees there are, how many of them have no cover, and what the covers cost together
+abbrev pub summary_text : Bool → List Answer → List ℕ
+summary_text second answers =
+    told_line (codes "trees ") (decimal (length answers))
+    ++ (told_line (codes "uncovered ") (decimal (count_by is_uncovered answers))
+    ++ told_line (codes "cost ") (cost_text second (sum_of_costs answers)))
+
+-- what is asked of each tree
+abbrev pub goal_of : Told → Goal
+goal_of told.Covers = goals.Cover
+goal_of told.Texts = goals.Text
+goal_of told.Summary = goals.Cover
+
+-- what is written of the answers of a forest's trees: each by itself, numbered from 1, or a summary
+abbrev pub told_of : Told → Bool → List Answer → List ℕ
+told_of told.Covers second answers = answers_text second 1 answers
+told_of told.Texts second answers = answers_text second 1 answers
+told_of told.Summary second answers = summary_text second answers
+
+-- the bytes tell the answers of the trees, and `covered` tells whether every answer is a cover or a text
+pub record AreAnswered (g : Grammar) (told : Told) (trees : List Tree) (covered : Bool) (bytes : List ℕ) : Type 0 where
+  pub answers : List Answer
+  pub answer_trees : AreAnswers g (goal_of told) trees answers
+  pub written : bytes ≡ told_of told (has_second_costs g) answers
+  pub all_covered : list_all is_covered answers ≡ covered
+
+-- The defined output of a job over a grammar and, for most, a forest that was read, and whether every tree is covered, and its text not too long.
+abbrev pub IsOutput : Job → Grammar → Option Forest → Bool → List ℕ → Type 0
+IsOutput PrintGrammar g None covered bytes = (bytes ≡ printed g) × (covered ≡ true)
+IsOutput (Make seed trees size) g None covered bytes = (forest : Forest) × IsMadeForest g seed trees size forest × AreAnswered g told.Summary forest.trees covered bytes
+IsOutput (OverForest mode.Cover name) g (Some forest) covered bytes = AreAnswered g told.Covers forest.trees covered bytes
+IsOutput (OverForest mode.Select name) g (Some forest) covered bytes = AreAnswered g told.Texts forest.trees covered bytes
+IsOutput (OverForest mode.Summary name) g (Some forest) covered bytes = AreAnswered g told.Summary forest.trees covered bytes
+IsOutput (OverForest mode.Print name) g (Some forest) covered bytes = IsPrinted g forest bytes × (covered ≡ true)
+IsOutput _ _ _ _ _ = ⊥

@@ -1,0 +1,111 @@
+// The answer of a tree, as text.
+ghost use Rattle.std.specs.Prelude.{◌≡◌, ◌++◌, OnOk, not, ◌==◌};
+ghost use Rattle.std.specs.List.{list_any};
+ghost use Rattle.sel_answers.specs.Output.{answer_text, told_text, cost_line, cost_text, spaced, line_end_behind, is_covered, has_second_costs};
+
+use crate::text::{put, put_number};
+use itoa::Buffer;
+use sel_base::{NoMemory, Pair};
+use sel_grammar::Grammar;
+use sel_work::Answer;
+
+/// Puts a cost, or a sum of costs, of these two numbers.
+pub fn put_cost(text: &mut Vec<u8>, second: bool, units: u128, ties: i128) -> Result<(), NoMemory>
+    ensures { OnOk result (text.new.items ≡ text.old.items ++ cost_text second (record { first = units; second = ties })) }
+{
+    let mut buffer = Buffer::new();
+    put(text, buffer.format(units).as_bytes())?;
+    if second {
+        let mut buffer = Buffer::new();
+        put(text, b",")?;
+        put(text, buffer.format(ties).as_bytes())?;
+    }
+    Ok(())
+}
+
+fn put_cost_line(text: &mut Vec<u8>, second: bool, cost: Pair) -> Result<(), NoMemory>
+    ensures { OnOk result (text.new.items ≡ text.old.items ++ cost_line second cost) }
+{
+    put(text, b" cost ")?;
+    put_cost(text, second, cost.first as u128, cost.second as i128)?;
+    put(text, b"\n")?;
+    Ok(())
+}
+
+fn put_rules(text: &mut Vec<u8>, rules: &[u16]) -> Result<(), NoMemory>
+    ensures { OnOk result (text.new.items ≡ text.old.items ++ spaced rules.now) }
+{
+    let Some((first, rest)) = rules.split_first() else {
+        return Ok(());
+    };
+    put_number(text, *first as u64)?;
+    'rules: for rule in rest {
+        put(text, b" ")?;
+        put_number(text, *rule as u64)?;
+    }
+    Ok(())
+}
+
+// The text of a tree, up to the end of its last line.
+fn put_lines(text: &mut Vec<u8>, lines: &[u8]) -> Result<(), NoMemory>
+    ensures { OnOk result (text.new.items ≡ text.old.items ++ (lines.now ++ line_end_behind lines.now)) }
+{
+    put(text, lines)?;
+    match lines.last() {
+        None | Some(b'\n') => Ok(()),
+        Some(_) => put(text, b"\n"),
+    }
+}
+
+fn put_told(text: &mut Vec<u8>, second: bool, answer: &Answer) -> Result<(), NoMemory>
+    ensures { OnOk result (text.new.items ≡ text.old.items ++ told_text second answer.now) }
+{
+    match answer {
+        Answer::NoCover => put(text, b" no cover\n"),
+        Answer::Cover(cover) => {
+            put_cost_line(text, second, cover.cost)?;
+            put_rules(text, cover.rules.as_slice())?;
+            put(text, b"\n")
+        }
+        Answer::Text { cost, text: lines } => {
+            put_cost_line(text, second, *cost)?;
+            put_lines(text, lines.as_slice())
+        }
+        Answer::TooLong { .. } => put(text, b" too long\n"),
+    }
+}
+
+/// Puts the answer of the tree of this number.
+pub fn put_answer(
+    text: &mut Vec<u8>,
+    second: bool,
+    number: u64,
+    answer: &Answer,
+) -> Result<(), NoMemory>
+    ensures { OnOk result (text.new.items ≡ text.old.items ++ answer_text second number answer.now) }
+{
+    put(text, b"; tree ")?;
+    put_number(text, number)?;
+    put_told(text, second, answer)
+}
+
+/// The answer is a cover or a text.
+pub fn is_covered(answer: &Answer) -> bool
+    ensures { result ≡ is_covered answer.now }
+{
+    match answer {
+        Answer::Cover(_) | Answer::Text { .. } => true,
+        Answer::NoCover | Answer::TooLong { .. } => false,
+    }
+}
+
+/// Some rule has a second cost.
+pub fn has_second_costs(grammar: &Grammar) -> bool
+    ensures { result ≡ has_second_costs grammar.now }
+{
+    grammar
+        .rules
+        .as_slice()
+        .iter()
+        .any(|rule| rule.cost.second != 0)
+}

@@ -1,0 +1,104 @@
+-- What the words ask for has settings within their bounds.
+use Rattle.std.proofs.Common.{◌≡◌, ℕ, ◌≤◌, Bool, true, false, ◌&&◌, List, [], ◌∷◌, Option, Some, None, refl, ap, subst, arith, leb-true, codes}
+use Rattle.std.specs.Prelude.{nat_le, option_and_then, option_map, if◌then◌else◌}
+use Rattle.std.specs.Str.Parse.{digits_value}
+use Rattle.sel_words.specs.declared.settings.Bounds.{Bounds}
+use Rattle.sel_words.specs.declared.settings.Settings.{Settings}
+use Rattle.sel_words.specs.Settings.{is_number, is_within, number_within, chosen_value, chosen_settings, workers_bounds, states_bounds, rows_bounds, seed_bounds, trees_bounds, size_bounds, AreWithinBounds}
+use Rattle.sel_words.specs.Split.{parts_of, values_for}
+use Rattle.sel_words.specs.Words.{Job, GrammarSource, Task, job_of, source_of, task_of, asked_by, command}
+
+-- what is made of a value is made of some
+from_some : {A B : Type 0} (f : A → Option B) (o : Option A) (y : B) → option_and_then f o ≡ Some y → (x : A) × (o ≡ Some x) × (f x ≡ Some y)
+from_some f None y e = absurd (cc)
+from_some f (Some x) y e = (x, refl, e)
+
+from_mapped : {A B : Type 0} (f : A → B) (o : Option A) (y : B) → option_map f o ≡ Some y → (x : A) × (o ≡ Some x) × (f x ≡ y)
+from_mapped f None y e = absurd (cc)
+from_mapped f (Some x) y e = (x, refl, cc)
+
+and_both : (a b : Bool) → (a && b) ≡ true → (a ≡ true) × (b ≡ true)
+and_both true b e = (refl, e)
+and_both false b e = absurd (cc)
+
+-- a number is within the bounds
+abbrev IsBetween : Bounds → ℕ → Type 0
+IsBetween bounds n = (bounds.least ≤ n) × (n ≤ bounds.greatest)
+
+within_if : (test : Bool) (n m : ℕ) (bounds : Bounds) → (test ≡ true → IsBetween bounds n) → (if test then Some n else None) ≡ Some m → IsBetween bounds m
+within_if true n m bounds h e = let same : n ≡ m = cc in subst (IsBetween bounds) same (h refl)
+within_if false n m bounds h e = absurd (cc)
+
+is_between : (bounds : Bounds) (n : ℕ) → is_within bounds n ≡ true → IsBetween bounds n
+is_between bounds n e =
+    let both = and_both (nat_le bounds.least n) (nat_le n bounds.greatest) e in
+    (leb-true bounds.least n both.0, leb-true n bounds.greatest both.1)
+
+number_bounded : (bounds : Bounds) (text : List ℕ) (n : ℕ) → number_within bounds text ≡ Some n → IsBetween bounds n
+number_bounded bounds text n e =
+    within_if (is_number text && is_within bounds (digits_value 10 text)) (digits_value 10 text) n bounds
+    (λ t. is_between bounds (digits_value 10 text) (and_both (is_number text) (is_within bounds (digits_value 10 text)) t).1) e
+
+value_bounded : (bounds : Bounds) (values : List (List ℕ)) (n : ℕ) → IsBetween bounds bounds.default → chosen_value bounds values ≡ Some n → IsBetween bounds n
+value_bounded bounds [] n h e = let same : bounds.default ≡ n = cc in subst (IsBetween bounds) same h
+value_bounded bounds (value ∷ []) n h e = number_bounded bounds value n e
+value_bounded bounds (value ∷ next ∷ more) n h e = absurd (cc)
+
+-- the settings of these values; none where a value is missing
+abbrev made : Option ℕ → Option ℕ → Option ℕ → Option ℕ → Option ℕ → Option ℕ → Option Settings
+made w s r d t z =
+    option_and_then (λ workers. option_and_then (λ states. option_and_then (λ rows. option_and_then (λ seed. option_and_then (λ trees. option_map (λ size.
+    record { workers = workers; states = states; rows = rows; seed = seed; trees = trees; size = size })
+    z) t) d) r) s) w
+
+-- where there are settings, each of the values is there
+record AreThese (s r t z : Option ℕ) (settings : Settings) : Type 0 where
+  states : s ≡ Some settings.states
+  rows : r ≡ Some settings.rows
+  trees : t ≡ Some settings.trees
+  size : z ≡ Some settings.size
+
+made_parts : (w s r d t z : Option ℕ) (settings : Settings) → made w s r d t z ≡ Some settings → AreThese s r t z settings
+made_parts None s r d t z settings e = absurd (cc)
+made_parts (Some w) None r d t z settings e = absurd (cc)
+made_parts (Some w) (Some s) None d t z settings e = absurd (cc)
+made_parts (Some w) (Some s) (Some r) None t z settings e = absurd (cc)
+made_parts (Some w) (Some s) (Some r) (Some d) None z settings e = absurd (cc)
+made_parts (Some w) (Some s) (Some r) (Some d) (Some t) None settings e = absurd (cc)
+made_parts (Some w) (Some s) (Some r) (Some d) (Some t) (Some z) settings e =
+    let whole : Settings = record { workers = w; states = s; rows = r; seed = d; trees = t; size = z } in
+    let same : whole ≡ settings = cc in
+    record {
+      states = ap (λ (x : Settings). Some x.states) same;
+      rows = ap (λ (x : Settings). Some x.rows) same;
+      trees = ap (λ (x : Settings). Some x.trees) same;
+      size = ap (λ (x : Settings). Some x.size) same;
+    }
+
+chosen_bounded : (values : List ℕ → List (List ℕ)) (settings : Settings) → chosen_settings values ≡ Some settings → AreWithinBounds settings
+chosen_bounded values settings e =
+    let parts = made_parts (chosen_value workers_bounds (values (codes "workers"))) (chosen_value states_bounds (values (codes "states"))) (chosen_value rows_bounds (values (codes "rows")))
+    (chosen_value seed_bounds (values (codes "seed"))) (chosen_value trees_bounds (values (codes "trees"))) (chosen_value size_bounds (values (codes "size"))) settings e in
+    record {
+      few_states = (value_bounded states_bounds (values (codes "states")) settings.states (omega arith, omega arith) parts.states).1;
+      few_rows = (value_bounded rows_bounds (values (codes "rows")) settings.rows (omega arith, omega arith) parts.rows).1;
+      few_trees = (value_bounded trees_bounds (values (codes "trees")) settings.trees (omega arith, omega arith) parts.trees).1;
+      some_size = (value_bounded size_bounds (values (codes "size")) settings.size (omega arith, omega arith) parts.size).0;
+      small_size = (value_bounded size_bounds (values (codes "size")) settings.size (omega arith, omega arith) parts.size).1;
+    }
+
+task_settings : (settings : Settings) (plain : List (List ℕ)) (task : Task) → task_of settings plain ≡ Some task → settings ≡ task.settings
+task_settings settings [] task e = absurd (cc)
+task_settings settings (word ∷ []) task e = absurd (cc)
+task_settings settings (mode ∷ grammar ∷ words) task e =
+    let job_task : Job → Option Task = λ job. option_map (λ source. record { job = job; grammar = grammar; source = source; settings = settings }) (source_of grammar) in
+    let j = from_some job_task (job_of settings mode words) task e in
+    let g = from_mapped (λ (source : GrammarSource). let t : Task = record { job = j.0; grammar = grammar; source = source; settings = settings } in t) (source_of grammar) task j.2 in
+    ap (λ (t : Task). t.settings) g.2
+
+pub command_bounded : (words : List (List ℕ)) (task : Task) → command words ≡ Some task → AreWithinBounds task.settings
+command_bounded words task e =
+    let p = from_some asked_by (parts_of None words) task e in
+    let parts = p.0 in
+    let s = from_some (λ settings. task_of settings parts.plain) (chosen_settings (λ name. values_for name parts.given)) task p.2 in
+    subst AreWithinBounds (task_settings s.0 parts.plain task s.2) (chosen_bounded (λ name. values_for name parts.given) s.0 s.1)

@@ -1,0 +1,11 @@
+pub mod ClapReading
+pub mod ClapTakes
+pub mod ClapValues
+pub mod ClapFaults
+pub mod ClapWords
+pub mod WordExamples
+pub mod Numbers
+pub mod Bounded
+pub mod Sources
+pub mod WordShapes
+pub mod SameParts

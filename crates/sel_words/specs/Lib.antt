@@ -1,0 +1,6 @@
+pub mod Split
+pub mod Settings
+pub mod Words
+pub mod Names
+pub mod CommandLine
+pub mod Found

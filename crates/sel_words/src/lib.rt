@@ -1,0 +1,9 @@
+//! The words of a command line, and what they ask for.
+#![tactic(auto)]
+
+mod command_line;
+mod settings;
+mod words;
+
+pub use settings::Settings;
+pub use words::{Command, GrammarSource, Job, Mode, read_words};

@@ -1,0 +1,149 @@
+// What the words ask for.
+ghost use Rattle.std.specs.Prelude.{◌≡◌, map, option_map, option_and_then, string_bytes, IfOk, IfSome};
+ghost use Rattle.sel_words.specs.Words.{command, source_of, mode_of, making, grammar_job, job_of, task_of, asked_by};
+ghost use Rattle.sel_words.specs.Names.{job_for, source_for, task_for, IsShort};
+ghost use Rattle.sel_words.specs.Found.{IsFound};
+ghost use Rattle.sel_words.specs.Split.{Parts};
+
+use crate::command_line::take_apart;
+use crate::settings::{Settings, chosen_settings};
+use clap::ArgMatches;
+use sel_base::NoMemory;
+use sel_targets::target;
+use std::alloc::Global;
+
+/// What is done over a forest.
+#[derive(Clone, Copy)]
+pub enum Mode {
+    /// The cheapest cover of each tree.
+    Cover,
+    /// The text that the cheapest cover of each tree expands to.
+    Select,
+    /// How many trees there are, how many have no cover, and what the cheapest covers cost together.
+    Summary,
+    /// The forest itself.
+    Print,
+}
+
+/// What is to be done. A forest's text has a name.
+#[derive(Clone, Copy)]
+pub enum Job<'a> {
+    PrintGrammar,
+    /// A forest is made, as the settings say, and a summary of it is written.
+    Make,
+    OverForest(Mode, &'a str),
+}
+
+/// The greatest count of trees times their size in a made forest.
+const MOST_MADE: u64 = 16_000_000;
+
+/// Where a grammar's text is from.
+#[derive(Clone, Copy)]
+pub enum GrammarSource<'a> {
+    /// The shelf holds it under the grammar's name.
+    Held,
+    /// The program ships it, and it is this text.
+    Shipped(&'a str),
+}
+
+/// What the words ask for: the job, the grammar's name, which is its word, where its text is from, and what the
+/// options say.
+#[derive(Clone, Copy)]
+pub struct Command<'a> {
+    pub job: Job<'a>,
+    pub grammar: &'a str,
+    pub source: GrammarSource<'a>,
+    pub settings: Settings,
+}
+
+fn mode_of(word: &str) -> Option<Mode>
+    ensures { result ≡ mode_of word.now }
+{
+    match word {
+        "cover" => Some(Mode::Cover),
+        "select" => Some(Mode::Select),
+        "print" => Some(Mode::Print),
+        "summary" => Some(Mode::Summary),
+        _ => None,
+    }
+}
+
+fn making<'a>(settings: Settings) -> Option<Job<'a>>
+    ensures { option_map (job_for settings) result ≡ making settings }
+{
+    match settings.trees.checked_mul(settings.size) {
+        Some(product) if product <= MOST_MADE => Some(Job::Make),
+        _ => None,
+    }
+}
+
+fn grammar_job<'a>(settings: Settings, word: &str) -> Option<Job<'a>>
+    ensures { option_map (job_for settings) result ≡ grammar_job settings word.now }
+{
+    match word {
+        "print" => Some(Job::PrintGrammar),
+        "make" => making(settings),
+        _ => None,
+    }
+}
+
+fn job_of<'a>(settings: Settings, word: &str, words: &[&'a str]) -> Option<Job<'a>>
+    ensures { option_map (job_for settings) result ≡ job_of settings word.now (map (λ word. word.now) words.now) }
+{
+    match words {
+        [] => grammar_job(settings, word),
+        [forest] => Some(Job::OverForest(mode_of(word)?, forest)),
+        _ => None,
+    }
+}
+
+fn source_of<'a>(word: &str) -> Option<GrammarSource<'a>>
+    ensures exact { option_map source_for result ≡ source_of word.now }
+    ensures short { IfSome result (λ source. IsShort (source_for source)) }
+{
+    match word.strip_prefix('@') {
+        Some(name) => Some(GrammarSource::Shipped(target(name)?)),
+        None => Some(GrammarSource::Held),
+    }
+}
+
+fn command_of<'a>(settings: Settings, plain: &[&'a str]) -> Option<Command<'a>>
+    ensures exact { option_map task_for result ≡ task_of settings (map (λ word. word.now) plain.now) }
+    ensures short { IfSome result (λ command. IsShort (source_for command.source)) }
+{
+    match plain {
+        [mode, grammar, words @ ..] => {
+            let job = job_of(settings, mode, words)?;
+            let source = source_of(grammar)?;
+            Some(Command {
+                job,
+                grammar,
+                source,
+                settings,
+            })
+        }
+        _ => None,
+    }
+}
+
+fn asked_by<'a>(found: &ArgMatches<'a>) -> Option<Command<'a>>
+    ensures exact { (parts : Parts) → IsFound found.now parts → option_map task_for result ≡ asked_by parts }
+    ensures short { IfSome result (λ command. IsShort (source_for command.source)) }
+{
+    let settings = chosen_settings(found)?;
+    command_of(settings, found.get_raw("plain")?)
+}
+
+/// What the words ask for, or None where they are no command: `cover`, `select`, `print` or `summary` with GRAMMAR
+/// and FOREST, `print GRAMMAR` or `make GRAMMAR`, and among them `--NAME VALUE` or `--NAME=VALUE`. Behind a word
+/// `--` no word is an option. A GRAMMAR that begins with `@` is `@rv64i`, `@aarch64` or `@x86-64`, behind `--` too.
+/// With `make`, trees times size are at most 16,000,000.
+pub fn read_words<'a>(alloc: Global, words: &'a [String]) -> Result<Option<Command<'a>>, NoMemory>
+    ensures exact { IfOk result (λ answer. option_map task_for answer ≡ command (map string_bytes words.now)) }
+    ensures short { IfOk result (λ answer. IfSome answer (λ command. IsShort (source_for command.source))) }
+{
+    let Some(found) = take_apart(alloc, words)? else {
+        return Ok(None);
+    };
+    Ok(asked_by(&found))
+}
