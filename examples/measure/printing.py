@@ -1,6 +1,6 @@
 """Times `print` over forests of 20 MB against md5sum, by turns, in processor time.
 
-    python3 examples/measure/printing.py crates/sel_cli/out/sel_cli FOLDER
+    python3 examples/measure/printing.py crates/sel/out/sel FOLDER
 
 makes the forests and their grammars in the folder, and writes a line for each forest: the least and
 the middle time of either, and how many times md5sum's they are.
