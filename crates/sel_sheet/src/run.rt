@@ -1,0 +1,148 @@
+// Runs the rows of sheets, and tells which aren't as wanted.
+use crate::answer::Answer;
+use crate::fault::SheetFault;
+use crate::row::Row;
+use crate::sheet::read_rows;
+use sel_base::{FileShelf, NoMemory, Shelf, ShelfFault};
+use std::alloc::Global;
+use std::env;
+use std::process::ExitCode;
+
+/// The greatest length of a sheet, in bytes.
+const LIMIT: usize = 16_777_216;
+
+/// The calls of which rows speak.
+pub trait Calls {
+    /// What the row's call gives with these words.
+    fn answer(&self, alloc: Global, row: &Row<'_>, words: &str) -> Result<Answer, NoMemory>;
+}
+
+// What a row or a sheet came to, in words for people.
+fn tell(rt: &HostRuntime, name: &str, line: usize, text: &str) {
+    let line = line.saturating_add(1);
+    let _ = eprintln!(rt; "{name}:{line}: {text}");
+}
+
+fn tell_bytes(rt: &HostRuntime, alloc: Global, what: &str, bytes: &[u8]) {
+    match String::from_utf8_lossy(alloc, bytes) {
+        Ok(text) => {
+            let _ = eprintln!(rt; "  {what}: {:?}", text.as_str());
+        }
+        Err(_) => {
+            let _ = eprintln!(rt; "  {what}: no memory");
+        }
+    }
+}
+
+// What came, beside what was wanted.
+fn tell_answer(rt: &HostRuntime, alloc: Global, row: &Row<'_>, answer: &Answer) {
+    let _ = eprintln!(rt; "  wanted status: {}, came: {}", row.status, answer.status);
+    tell_bytes(rt, alloc, "wanted out", row.out.as_slice());
+    tell_bytes(rt, alloc, "came out", answer.out.as_slice());
+    tell_bytes(rt, alloc, "wanted err", row.err.as_slice());
+    tell_bytes(rt, alloc, "came err", answer.err.as_slice());
+}
+
+fn is_as_wanted<C: Calls>(
+    rt: &HostRuntime,
+    alloc: Global,
+    name: &str,
+    row: &Row<'_>,
+    calls: &C,
+) -> Result<bool, NoMemory> {
+    let answer = calls.answer(alloc, row, row.words)?;
+    if !row.is_as_told(&answer) {
+        tell(rt, name, row.line, "not as wanted");
+        tell_answer(rt, alloc, row, &answer);
+        return Ok(false);
+    }
+    if answer.no_memory {
+        tell(rt, name, row.line, "no memory");
+        return Ok(false);
+    }
+    let Some(words) = row.beside else {
+        return Ok(true);
+    };
+    let other = calls.answer(alloc, row, words)?;
+    if answer.is_same(&other) {
+        return Ok(true);
+    }
+    tell(rt, name, row.line, "not as beside it");
+    Ok(false)
+}
+
+fn are_as_wanted<C: Calls>(
+    rt: &HostRuntime,
+    alloc: Global,
+    name: &str,
+    text: &str,
+    calls: &C,
+) -> Result<bool, SheetFault> {
+    let mut shelf = FileShelf::new(rt, alloc);
+    let rows = read_rows(alloc, &mut shelf, text)?;
+    let mut are_wanted = !rows.is_empty();
+    for row in rows.as_slice() {
+        are_wanted &= is_as_wanted(rt, alloc, name, row, calls)?;
+    }
+    Ok(are_wanted)
+}
+
+fn is_text_as_wanted<C: Calls>(
+    rt: &HostRuntime,
+    alloc: Global,
+    name: &str,
+    bytes: &[u8],
+    calls: &C,
+) -> bool {
+    let Ok(text) = std::str::from_utf8(bytes) else {
+        tell(rt, name, 0, "no text");
+        return false;
+    };
+    match are_as_wanted(rt, alloc, name, text, calls) {
+        Ok(are_wanted) => are_wanted,
+        Err(SheetFault::Line(line)) => {
+            tell(rt, name, line, "no line of a row");
+            false
+        }
+        Err(SheetFault::NoMemory) => {
+            tell(rt, name, 0, "no memory");
+            false
+        }
+    }
+}
+
+fn is_sheet_as_wanted<C: Calls>(rt: &HostRuntime, alloc: Global, name: &str, calls: &C) -> bool {
+    let mut shelf = FileShelf::new(rt, alloc);
+    match shelf.read(alloc, name, LIMIT) {
+        Ok(bytes) => is_text_as_wanted(rt, alloc, name, bytes.as_slice(), calls),
+        Err(ShelfFault::Failed | ShelfFault::TooBig | ShelfFault::NoMemory) => {
+            tell(rt, name, 0, "not read");
+            false
+        }
+    }
+}
+
+/// Runs the rows of the sheets that the words of this process name, writes a line for each sheet, and ends with
+/// 0 where each row of each is as wanted.
+pub fn run_sheets<C: Calls>(rt: &HostRuntime, calls: &C) -> ExitCode {
+    let alloc = rt.alloc();
+    let Ok(names) = env::args(rt) else {
+        return ExitCode::FAILURE;
+    };
+    let mut are_wanted = true;
+    for name in names.skip(1) {
+        let is_wanted = is_sheet_as_wanted(rt, alloc, name.as_str(), calls);
+        let told = if is_wanted {
+            "as wanted"
+        } else {
+            "not as wanted"
+        };
+        let _ = println!(rt; "{}: {told}", name.as_str());
+        are_wanted &= is_wanted;
+    }
+    if are_wanted {
+        ExitCode::SUCCESS
+    } else {
+        ExitCode::FAILURE
+    }
+}
