@@ -15,14 +15,19 @@ pub struct Answer {
 }
 
 impl Answer {
-    /// An answer that is this text on `out`.
-    pub fn of_text(alloc: Global, text: &str) -> Result<Answer, NoMemory> {
+    /// An answer that is these bytes on `out`.
+    pub fn of_bytes(alloc: Global, bytes: &[u8]) -> Result<Answer, NoMemory> {
         Ok(Answer {
-            out: Vec::from_slice(alloc, text.as_bytes())?,
+            out: Vec::from_slice(alloc, bytes)?,
             err: Vec::new(alloc),
             status: 0,
             no_memory: false,
         })
+    }
+
+    /// An answer that is this text on `out`.
+    pub fn of_text(alloc: Global, text: &str) -> Result<Answer, NoMemory> {
+        Answer::of_bytes(alloc, text.as_bytes())
     }
 
     /// Both are the same.

@@ -260,11 +260,19 @@ impl<'t> Row<'t> {
         Ok(true)
     }
 
-    // What the answer's only line is.
+    // The only line on `out`.
     fn take_answer(&mut self, written: &str) -> Result<bool, NoMemory> {
         self.out.clear();
         self.out.extend_from_slice(written.as_bytes())?;
         self.out.push(b'\n')?;
+        Ok(true)
+    }
+
+    // The only line on the error stream.
+    fn take_refusal(&mut self, written: &str) -> Result<bool, NoMemory> {
+        self.err.clear();
+        self.err.extend_from_slice(written.as_bytes())?;
+        self.err.push(b'\n')?;
         Ok(true)
     }
 
@@ -288,6 +296,9 @@ impl<'t> Row<'t> {
         }
         if let Some(written) = line.strip_prefix('=') {
             return self.take_answer(written);
+        }
+        if let Some(written) = line.strip_prefix('!') {
+            return self.take_refusal(written);
         }
         match line.split_once(' ') {
             Some((word, rest)) => self.take_words(alloc, shelf, word, rest),
