@@ -1,14 +1,16 @@
-// The texts of a test, read.
+// The texts of a row, read.
 ghost use Rattle.std.specs.Prelude.{IfOk};
+ghost use Rattle.sel_grammar.specs.Lawful.{IsLawful};
 ghost use Rattle.sel_forest.specs.Valid.{IsValidForest};
 ghost use Rattle.sel_items.specs.Laws.{IsAcceptedForm};
 
+use crate::stop::Stop;
 use sel_forest::{Forest, read_forest};
 use sel_grammar::Grammar;
 use sel_grammar_text::read_grammar;
 use sel_normal::Normal;
+use sel_sheet::Row;
 use std::alloc::Global;
-use std::test::Fail;
 
 // one byte more than a text may have
 const TOO_LONG: usize = 4_294_967_295;
@@ -20,25 +22,45 @@ pub struct Accepted {
     pub normal: Normal,
 }
 
-pub fn accept(alloc: Global, text: &str) -> Result<Accepted, Fail>
+/// The text of the row's file of this name.
+pub fn text_of<'r>(row: &'r Row<'_>, name: &str) -> Result<&'r [u8], Stop> {
+    row.file(name).ok_or(Stop::Unfit("the row lacks a file"))
+}
+
+/// The grammar that the text spells.
+pub fn grammar_of(alloc: Global, text: &[u8]) -> Result<Grammar, Stop>
+    ensures { IfOk result (λ grammar. IsLawful grammar) }
+{
+    if text.len() >= TOO_LONG {
+        return Err(Stop::Unfit("the grammar is too long"));
+    }
+    Ok(read_grammar(alloc, text)?)
+}
+
+/// The grammar of the row's file `g`, with its normal form.
+pub fn accept(alloc: Global, row: &Row<'_>) -> Result<Accepted, Stop>
     ensures { IfOk result (λ accepted. IsAcceptedForm accepted.grammar accepted.normal) }
 {
-    let bytes = text.as_bytes();
-    if bytes.len() >= TOO_LONG {
-        return Err(Fail::new("the grammar is too long"));
-    }
-    let grammar = read_grammar(alloc, bytes)?;
+    let grammar = grammar_of(alloc, text_of(row, "g")?)?;
     let normal = Normal::of(alloc, &grammar)?;
     Ok(Accepted { grammar, normal })
 }
 
-pub fn forest_of(alloc: Global, accepted: &Accepted, text: &[u8]) -> Result<Forest, Fail>
-    requires form { IsAcceptedForm accepted.now.grammar accepted.now.normal }
-    ensures { IfOk result (λ forest. IsValidForest accepted.now.grammar forest) }
+/// The forest that the text spells.
+pub fn forest_in(alloc: Global, grammar: &Grammar, text: &[u8]) -> Result<Forest, Stop>
+    requires lawful { IsLawful grammar.now }
+    ensures { IfOk result (λ forest. IsValidForest grammar.now forest) }
 {
     if text.len() >= TOO_LONG {
-        return Err(Fail::new("the forest is too long"));
+        return Err(Stop::Unfit("the forest is too long"));
     }
-    let forest = read_forest(alloc, &accepted.grammar, text)?;
-    Ok(forest)
+    Ok(read_forest(alloc, grammar, text)?)
+}
+
+/// The forest of the row's file `f`.
+pub fn forest_of(alloc: Global, grammar: &Grammar, row: &Row<'_>) -> Result<Forest, Stop>
+    requires lawful { IsLawful grammar.now }
+    ensures { IfOk result (λ forest. IsValidForest grammar.now forest) }
+{
+    forest_in(alloc, grammar, text_of(row, "f")?)
 }

@@ -6,7 +6,7 @@ ghost use Rattle.sel_forest.specs.Postorder.{IsPostorderOf};
 ghost use Rattle.sel_forest.specs.Valid.{IsValidTree};
 ghost use Rattle.sel_items.specs.Laws.{IsAcceptedForm};
 
-use crate::texts::Accepted;
+use crate::accepted::Accepted;
 use sel_base::{NoMemory, Steps};
 use sel_forest::{Cover, Tree};
 use sel_items::Automaton;
