@@ -6,10 +6,8 @@ pub mod KeyFacts
 pub mod KidMeanings
 pub mod Lawful
 pub mod Numbering
-pub mod PatternCases
 pub mod Refusals
 pub mod Results
-pub mod SmallEntries
 pub mod Told
 pub mod Ways
 pub mod OneKey

@@ -9,10 +9,3 @@ mod states;
 mod transitions;
 
 pub use private::PrivateAutomaton;
-
-#[cfg(test)]
-mod tests;
-#[cfg(test)]
-mod tests_kid_sets;
-#[cfg(test)]
-mod tests_lawful;

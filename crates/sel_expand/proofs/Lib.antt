@@ -7,4 +7,3 @@ pub mod Leading
 pub mod KidValues
 pub mod Lines
 pub mod Wholes
-pub mod SmallGrammars

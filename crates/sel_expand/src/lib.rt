@@ -10,8 +10,3 @@ mod sizes;
 mod templates;
 
 pub use expansion::{Expander, Expansion, LONGEST_TEXT, expand};
-
-#[cfg(test)]
-mod tests_grammars;
-#[cfg(test)]
-mod tests_texts;

@@ -12,6 +12,3 @@ mod tasks;
 
 pub use forest::make_forest;
 pub use maker::TreeMaker;
-
-#[cfg(test)]
-mod tests;

@@ -7,6 +7,3 @@ mod shipped;
 mod x86_64;
 
 pub use shipped::target;
-
-#[cfg(test)]
-mod tests;
