@@ -13,18 +13,3 @@ mod texts;
 pub use report::Report;
 pub use run::run;
 pub use status::Status;
-
-#[cfg(test)]
-mod tests;
-#[cfg(test)]
-mod tests_grammars;
-#[cfg(test)]
-mod tests_made;
-#[cfg(test)]
-mod tests_select;
-#[cfg(test)]
-mod tests_summary;
-#[cfg(test)]
-mod tests_targets;
-#[cfg(test)]
-mod tests_words;

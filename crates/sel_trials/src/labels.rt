@@ -48,10 +48,10 @@ fn item_at<A: Automaton>(
     at: usize,
     nonterminal: u16,
 ) -> Option<Item>
-    requires items { (i : Items) × IsItemsAt (A.means automaton.old) labels.now.of at i }
-    requires nonterminal { nonterminal < (A.normal automaton.old).nonterminals }
-    ensures normal { A.normal automaton.new ≡ A.normal automaton.old }
-    ensures keeps { KeepsMeanings (A.means automaton.old) (A.means automaton.new) }
+    requires items { (i : Items) × IsItemsAt (A.told automaton.old).means labels.now.of at i }
+    requires nonterminal { nonterminal < (A.told automaton.old).normal.nonterminals }
+    ensures normal { (A.told automaton.new).normal ≡ (A.told automaton.old).normal }
+    ensures keeps { KeepsMeanings (A.told automaton.old).means (A.told automaton.new).means }
 {
     match labels.of.get(at) {
         Some(label) => automaton.item(*label, nonterminal),
@@ -67,12 +67,12 @@ fn root_item<A: Automaton>(
     labels: &Labels,
     nonterminal: u16,
 ) -> Option<Item>
-    requires normal { A.normal automaton.old ≡ accepted.now.normal }
+    requires normal { (A.told automaton.old).normal ≡ accepted.now.normal }
     requires form { IsAcceptedForm accepted.now.grammar accepted.now.normal }
     requires tree { IsValidTree accepted.now.grammar tree.now }
-    requires labelled { IsLabelling accepted.now.grammar (A.means automaton.old) tree.now labels.now.of }
-    ensures normal { A.normal automaton.new ≡ A.normal automaton.old }
-    ensures labelled { IsLabelling accepted.now.grammar (A.means automaton.new) tree.now labels.now.of }
+    requires labelled { IsLabelling accepted.now.grammar (A.told automaton.old).means tree.now labels.now.of }
+    ensures normal { (A.told automaton.new).normal ≡ (A.told automaton.old).normal }
+    ensures labelled { IsLabelling accepted.now.grammar (A.told automaton.new).means tree.now labels.now.of }
 {
     if nonterminal >= accepted.normal.nonterminals() {
         return None;
@@ -102,12 +102,12 @@ fn put_items<A: Automaton>(
     labels: &Labels,
     text: &mut String,
 ) -> Result<(), NoMemory>
-    requires normal { A.normal automaton.old ≡ accepted.now.normal }
+    requires normal { (A.told automaton.old).normal ≡ accepted.now.normal }
     requires form { IsAcceptedForm accepted.now.grammar accepted.now.normal }
     requires tree { IsValidTree accepted.now.grammar tree.now }
-    requires labelled { IsLabelling accepted.now.grammar (A.means automaton.old) tree.now labels.now.of }
-    ensures normal { A.normal automaton.new ≡ A.normal automaton.old }
-    ensures labelled { IsLabelling accepted.now.grammar (A.means automaton.new) tree.now labels.now.of }
+    requires labelled { IsLabelling accepted.now.grammar (A.told automaton.old).means tree.now labels.now.of }
+    ensures normal { (A.told automaton.new).normal ≡ (A.told automaton.old).normal }
+    ensures labelled { IsLabelling accepted.now.grammar (A.told automaton.new).means tree.now labels.now.of }
 {
     let count = accepted.normal.nonterminals();
     'items: for nonterminal in 0..count {

@@ -12,8 +12,8 @@ pub item_at-requires-clause-items : goal.item_at-requires-clause-items
 item_at-requires-clause-items g c =
     let nodes = c.as_slice-nodes.result.now in
     let t = c.requires.tree in
-    root_items c.args.accepted.now.grammar c.args.accepted.now.normal nodes t.plain c.requires.form (c.as_slice-nodes.ensures ∙ t.postorder) (g.A.Automaton.means c.args.automaton.now) c.args.labels.now.of
-    (subst (λ x. LabelsMean c.args.accepted.now.grammar (g.A.Automaton.means c.args.automaton.now) x c.args.labels.now.of) (sym c.as_slice-nodes.ensures) (c.requires.labelled).mean)
+    root_items c.args.accepted.now.grammar c.args.accepted.now.normal nodes t.plain c.requires.form (c.as_slice-nodes.ensures ∙ t.postorder) (g.A.Automaton.told c.args.automaton.now).means c.args.labels.now.of
+    (subst (λ x. LabelsMean c.args.accepted.now.grammar (g.A.Automaton.told c.args.automaton.now).means x c.args.labels.now.of) (sym c.as_slice-nodes.ensures) (c.requires.labelled).mean)
 
 pub returns-clause-labelled : goal.returns-clause-labelled
 returns-clause-labelled g c = record {
