@@ -1,0 +1,4 @@
+-- Lemmas for the proofs of the crates above.
+pub mod Bettering
+pub mod Choices
+pub mod Digits

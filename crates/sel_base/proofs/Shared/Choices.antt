@@ -1,0 +1,22 @@
+-- What holds of both sides of a choice, and tests.
+use Rattle.std.proofs.Common.{◌≡◌, ℕ, ◌<◌, ◌≤◌, ◌⊎◌, Bool, true, false, cond, ◌||◌, refl, arith}
+
+-- what holds of both holds of the chosen
+pub choose : {X : Type 0} (P : X → Type 0) (b : Bool) (x y : X) → P x → P y → P (cond b x y)
+choose P true x y p q = p
+choose P false x y p q = q
+
+-- each by the test's outcome
+pub choose_by : {X : Type 0} (P : X → Type 0) (b : Bool) (x y : X) → (b ≡ true → P x) → (b ≡ false → P y) → P (cond b x y)
+choose_by P true x y f g = f refl
+choose_by P false x y f g = g refl
+
+pub or_left : (a b : Bool) → a ≡ true → (a || b) ≡ true
+or_left true b h = refl
+or_left false b h = cc
+
+pub same_or_other : (a b : ℕ) → (a ≡ b) ⊎ (a ≡ b → ⊥)
+same_or_other a b = grind arith
+
+pub at_most_or_above : (a b : ℕ) → (a ≤ b) ⊎ (b < a)
+at_most_or_above a b = grind arith
