@@ -13,3 +13,4 @@ pub mod Short
 pub mod UsedRules
 pub mod Words
 pub mod LawfulCosts
+pub mod Subtrees

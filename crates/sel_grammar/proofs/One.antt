@@ -7,7 +7,8 @@ use Rattle.sel_grammar.specs.Best.{IsBest, Beats, IsLexLess}
 use Rattle.sel_grammar.specs.Laws.{BestIsOne}
 use Rattle.sel_grammar.proofs.CostLaws.{cheaper_not_both, cheaper_not_same}
 
-less_not_both : (xs ys : List ℕ) → IsLexLess xs ys → IsLexLess ys xs → ⊥
+-- of two lists of numbers not each is less than the other
+pub less_not_both : (xs ys : List ℕ) → IsLexLess xs ys → IsLexLess ys xs → ⊥
 less_not_both [] [] h k = h
 less_not_both [] (y ∷ ys) h k = k
 less_not_both (x ∷ xs) [] h k = h

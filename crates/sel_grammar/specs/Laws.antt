@@ -1,6 +1,7 @@
 -- Laws of the definitions.
 use Rattle.std.specs.Prelude.{◌≡◌, ℕ, ◌*◌, ◌≤◌, List, ◌++◌, length}
 use Rattle.sel_grammar.specs.declared.grammar.Grammar.{Grammar}
+use Rattle.sel_grammar.specs.Lawful.{IsLawful}
 use Rattle.sel_grammar.specs.Limits.{IsWithinLimits, most_nonterminals, greatest_cost}
 use Rattle.sel_grammar.specs.PlainTrees.{PlainTree, size}
 use Rattle.sel_grammar.specs.Derivations.{Derivation, Derives, cost, list}
@@ -27,3 +28,7 @@ BestIsShort = (g : Grammar) (n : ℕ) (t : PlainTree) (d : Derivation) → IsWit
 -- so a best derivation costs at most as much as so many of the dearest rules
 abbrev pub BestIsSmall : Type 0
 BestIsSmall = (g : Grammar) (n : ℕ) (t : PlainTree) (d : Derivation) → IsWithinLimits g → HasSmallCosts g → HasNoFreeCycle g → IsBest g d n t → IsSmall (size t * most_nonterminals * greatest_cost) (cost g d)
+
+-- the rules of a lawful grammar cost no more than the limit by either number
+abbrev pub LawfulCosts : Type 0
+LawfulCosts = (g : Grammar) → IsLawful g → HasSmallCosts g

@@ -1,80 +1,81 @@
 -- The limits of a grammar, and the kinds of its faults.
 use Rattle.std.specs.Prelude.{◌≡◌, ℕ, ◌<◌, ◌≤◌, length, slice_get, Option, Some, None}
+use Rattle.sel_grammar.specs.declared.limits.TheConstants.{MOST_OPERATORS, MOST_NONTERMINALS, MOST_RULES, MOST_NAMES, MOST_NORMAL_NONTERMINALS, MOST_KIDS, GREATEST_COST, GREATEST_EXTERNAL, TOKEN, NO_RULES, DUPLICATE_TERM, ARITY, TERM_ON_LEFT, NO_RULE, COST_FORM, COST_LARGE, TEMPLATE_FORM, KID_NUMBER, RESULT_IN_FRAGMENT, RANGE_PLACE, TOO_MANY, ZERO_CYCLE}
 use Rattle.sel_grammar.specs.declared.grammar.Grammar.{Grammar}
 use Rattle.sel_grammar.specs.declared.grammar.Operator.{Operator}
 use Rattle.sel_grammar.specs.declared.grammar.Rule.{Rule}
 
 abbrev pub most_operators : ℕ
-most_operators = 255
+most_operators = MOST_OPERATORS
 
 abbrev pub most_nonterminals : ℕ
-most_nonterminals = 64
+most_nonterminals = MOST_NONTERMINALS
 
 abbrev pub most_rules : ℕ
-most_rules = 1023
+most_rules = MOST_RULES
 
 -- how many names a pattern may have, its root's among them
 abbrev pub most_names : ℕ
-most_names = 63
+most_names = MOST_NAMES
 
 -- how many nonterminals the normal form of a grammar may have
 abbrev pub most_normal_nonterminals : ℕ
-most_normal_nonterminals = 512
+most_normal_nonterminals = MOST_NORMAL_NONTERMINALS
 
 -- how many kids an operator may have
 abbrev pub most_kids : ℕ
-most_kids = 2
+most_kids = MOST_KIDS
 
 -- the greatest number of a rule's cost
 abbrev pub greatest_cost : ℕ
-greatest_cost = 65535
+greatest_cost = GREATEST_COST
 
 -- the greatest number that `%term` gives an operator, and that a BURG rule gives itself
 abbrev pub greatest_external : ℕ
-greatest_external = 4294967295
+greatest_external = GREATEST_EXTERNAL
 
 -- no text of the form goes on with this token
 abbrev pub token : ℕ
-token = 1
+token = TOKEN
 
 abbrev pub no_rules : ℕ
-no_rules = 2
+no_rules = NO_RULES
 
 abbrev pub duplicate_term : ℕ
-duplicate_term = 3
+duplicate_term = DUPLICATE_TERM
 
 abbrev pub arity : ℕ
-arity = 4
+arity = ARITY
 
 abbrev pub term_on_left : ℕ
-term_on_left = 5
+term_on_left = TERM_ON_LEFT
 
 abbrev pub no_rule : ℕ
-no_rule = 6
+no_rule = NO_RULE
 
 abbrev pub cost_form : ℕ
-cost_form = 7
+cost_form = COST_FORM
 
 abbrev pub cost_large : ℕ
-cost_large = 8
+cost_large = COST_LARGE
 
 abbrev pub template_form : ℕ
-template_form = 9
+template_form = TEMPLATE_FORM
 
 abbrev pub kid_number : ℕ
-kid_number = 10
+kid_number = KID_NUMBER
 
 abbrev pub result_in_fragment : ℕ
-result_in_fragment = 11
+result_in_fragment = RESULT_IN_FRAGMENT
 
 abbrev pub range_place : ℕ
-range_place = 12
+range_place = RANGE_PLACE
 
 abbrev pub too_many : ℕ
-too_many = 13
+too_many = TOO_MANY
 
 abbrev pub zero_cycle : ℕ
-zero_cycle = 14
+zero_cycle = ZERO_CYCLE
 
 -- an operator takes none, one or two kids, or it is open how many
 abbrev pub IsArity : Option ℕ → Type 0

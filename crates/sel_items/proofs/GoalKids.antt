@@ -19,7 +19,7 @@ use Rattle.sel_items.proofs.Meanings.{EntryMeans, PartCosts, GoalsMean, KidsGoal
 use Rattle.sel_items.proofs.Meanings.{kid_trees, operator_of}
 use Rattle.sel_normal.proofs.Steps.{some_same, some_none}
 use Rattle.sel_grammar.proofs.Kids.{both_kids, costs-both, AllFirst-both, DeriveAll-split}
-use Rattle.sel_items.proofs.Subtrees.{subtrees_long}
+use Rattle.sel_grammar.proofs.Subtrees.{subtrees_long}
 
 abbrev pub op_of : Pattern → ℕ
 op_of (Leaf n) = 0

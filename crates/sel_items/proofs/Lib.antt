@@ -16,7 +16,6 @@ pub mod Rows
 pub mod Shifts
 pub mod SomeItems
 pub mod Starts
-pub mod Subtrees
 pub mod Turns
 pub mod Widths
 pub mod WordBounds

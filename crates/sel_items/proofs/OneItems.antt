@@ -5,7 +5,7 @@ use Rattle.sel_grammar.specs.declared.grammar.Pattern.{Pattern}
 use Rattle.sel_grammar.specs.PlainTrees.{PlainTree}
 use Rattle.sel_grammar.specs.Derivations.{Derivations, cost, costs, lists}
 use Rattle.sel_grammar.specs.Best.{IsLexLess}
-use Rattle.sel_grammar.proofs.One.{best_one}
+use Rattle.sel_grammar.proofs.One.{best_one, less_not_both}
 use Rattle.sel_grammar.proofs.CostLaws.{cheaper_not_both, cheaper_not_same}
 use Rattle.sel_normal.specs.Forms.{places}
 use Rattle.sel_normal.specs.Goals.{BeatAll, IsBestPart}
@@ -15,15 +15,6 @@ use Rattle.sel_items.specs.Entries.{item_at}
 use Rattle.sel_items.specs.ItemsOf.{root_rule, SymbolMeans, PartMeans, IsItemsOf}
 use Rattle.sel_items.proofs.Rows.{no_entry, below_or_not}
 use Rattle.sel_items.proofs.OneSet.{same_items, one_reduced}
-
-less_not_both : (xs ys : List ℕ) → IsLexLess xs ys → IsLexLess ys xs → ⊥
-less_not_both [] [] h k = h
-less_not_both [] (y ∷ ys) h k = k
-less_not_both (x ∷ xs) [] h k = h
-less_not_both (x ∷ xs) (y ∷ ys) (inl h) (inl k) = absurd (omega arith)
-less_not_both (x ∷ xs) (y ∷ ys) (inl h) (inr k) = let q = k.0 in absurd (omega arith)
-less_not_both (x ∷ xs) (y ∷ ys) (inr h) (inl k) = let q = h.0 in absurd (omega arith)
-less_not_both (x ∷ xs) (y ∷ ys) (inr h) (inr k) = less_not_both xs ys h.1 k.1
 
 all_not_both : (g : Grammar) (d e : Derivations) → BeatAll g d e → BeatAll g e d → ⊥
 all_not_both g d e (inl h) (inl k) = cheaper_not_both (costs g d) (costs g e) h k

@@ -4,6 +4,8 @@ use Rattle.std.specs.Prelude.{nat_le}
 use Rattle.std.specs.List.{filter}
 use Rattle.std.proofs.lemmas.List.Elements.{filter-append}
 use Rattle.std.proofs.lemmas.Bool.{le-leb, leb-true}
+use Rattle.sel_base.proofs.Shared.Choices.{if_some}
+use Rattle.sel_grammar.proofs.Subtrees.{subtrees_long}
 use Rattle.sel_base.specs.declared.range.Range.{Range}
 use Rattle.sel_grammar.specs.declared.grammar.Attribute.{Attribute}
 use Rattle.sel_grammar.specs.declared.grammar.Grammar.{Grammar}
@@ -72,24 +74,6 @@ split s (more e es) (n ∷ ns) ms (t ∷ ts) us q h =
       costs_are = ap (λ x. cost s e ⊕ x) r.costs_are ∙ sym (sum_assoc (cost s e) (costs s r.front) (costs s r.back));
       lists_are = ap (λ l. list e ++ l) r.lists_are ∙ sym (append_assoc (list e) (lists r.front) (lists r.back));
     }
-
-if_some : {A : Type 0} (b : Bool) (x : Option A) (y : A) → (if b then x else None) ≡ Some y → (b ≡ true) × (x ≡ Some y)
-if_some true x y h = (refl, h)
-if_some false x y h = absurd (some_none (sym h))
-
-pub subtrees_long : (p : Pattern) (t : PlainTree) (ts : List PlainTree) → subtrees p t ≡ Some ts → length (leaves p) ≡ length ts
-subtrees_long (Leaf n) t ts h = ap length (some_same h)
-subtrees_long (Nullary o) (Node0 op a) ts h = ap length (some_same ((if_some (o == op) (Some []) ts h).1))
-subtrees_long (Nullary o) (Node1 op a t) ts h = absurd (some_none (sym h))
-subtrees_long (Nullary o) (Node2 op a t u) ts h = absurd (some_none (sym h))
-subtrees_long (Unary' o s (more_of-Pattern p end_of-Pattern)) (Node0 op a) ts h = absurd (some_none (sym h))
-subtrees_long (Unary' o s (more_of-Pattern p end_of-Pattern)) (Node1 op a t) ts h = subtrees_long p t ts (if_some (o == op) (subtrees p t) ts h).1
-subtrees_long (Unary' o s (more_of-Pattern p end_of-Pattern)) (Node2 op a t u) ts h = absurd (some_none (sym h))
-subtrees_long (Binary' o s (more_of-Pattern p end_of-Pattern) s' (more_of-Pattern q end_of-Pattern)) (Node0 op a) ts h = absurd (some_none (sym h))
-subtrees_long (Binary' o s (more_of-Pattern p end_of-Pattern) s' (more_of-Pattern q end_of-Pattern)) (Node1 op a t) ts h = absurd (some_none (sym h))
-subtrees_long (Binary' o s (more_of-Pattern p end_of-Pattern) s' (more_of-Pattern q end_of-Pattern)) (Node2 op a t u) ts h =
-    let j = joined_parts (subtrees p t) (subtrees q u) ts (if_some (o == op) (joined (subtrees p t) (subtrees q u)) ts h).1 in
-    length-append (leaves p) (leaves q) ∙ (λ i. subtrees_long p t j.0 j.2 i + subtrees_long q u j.1 j.3 i) ∙ sym (length-append j.0 j.1) ∙ ap length j.4
 
 module _ (g : Grammar) (normal : NormalForm) (h : IsLawful g) (form : IsFormOf g normal) (is_cut : IsCut g normal) where
   abbrev s : Grammar

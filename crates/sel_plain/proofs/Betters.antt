@@ -17,18 +17,16 @@ use Rattle.sel_plain.specs.Rows.{Row, entry_at, entry_cost}
 use Rattle.sel_plain.specs.Offers.{offered, offered_by}
 use Rattle.sel_plain.proofs.Patterns.{operator_kind}
 use Rattle.sel_forest.proofs.Matching.{some_same}
-use Rattle.sel_plain.proofs.Entries.{same_or_other, entry_at-get_or, entry_at-set_same, entry_at-set_other}
+use Rattle.sel_base.proofs.Shared.Bettering.{place_at-get_or, place_at-set_same, place_at-set_other, total_falls, first_decides, second_decides}
+use Rattle.sel_base.proofs.Shared.Choices.{same_or_other, at_most_or_above}
 use Rattle.sel_plain.specs.Bettering.{IsNoLater, KeepsOut, offer_entry, IsBettered, Keeps, distance, total_distance, counts_to, count_to, IsBacked, AllBacked, OperatorOffers}
 use Rattle.sel_plain.proofs.CostBoundLaws.{IsIn64, IsIn64-capped, cost_place_below, cost_place_less, IsUpTo-wider, IsUpTo-same, IsUpTo-sum, capped_exact, NoDearer-trans, NoDearer-behind, cheaper_no_dearer}
 use Rattle.sel_plain.proofs.Counts.{counted, uncounted, count_to_le, count_to_more, counts_sooner}
 
 -- an offer that an entry doesn't withstand
 later_than : (e f : Entry) → (IsNoLater e f → ⊥) → IsCheaper f.cost e.cost ⊎ ((f.cost ≡ e.cost) × (f.rule < e.rule))
-later_than e f h = go (cheaper_or_not e.cost f.cost) (two e.rule f.rule)
+later_than e f h = go (cheaper_or_not e.cost f.cost) (at_most_or_above e.rule f.rule)
   where
-    two : (a b : ℕ) → (a ≤ b) ⊎ (b < a)
-    two a b = grind arith
-
     go : IsCheaper e.cost f.cost ⊎ ((e.cost ≡ f.cost) ⊎ IsCheaper f.cost e.cost) → (e.rule ≤ f.rule) ⊎ (f.rule < e.rule) → IsCheaper f.cost e.cost ⊎ ((f.cost ≡ e.cost) × (f.rule < e.rule))
     go (inl l) d = absurd (h (inl l))
     go (inr (inl q)) (inl d) = absurd (h (inr (q, d)))
@@ -40,25 +38,15 @@ nearer None f c r h = let x = cost_place_below f.cost c in omega arith
 nearer (Some e) f c r h = go (later_than e f (h e refl))
   where
     go : IsCheaper f.cost e.cost ⊎ ((f.cost ≡ e.cost) × (f.rule < e.rule)) → distance (Some f) < distance (Some e)
-    go (inl l) = below (cost_place f.cost) (cost_place e.cost) f.rule e.rule (cost_place_less f.cost e.cost c l) r
-      where
-        below : (a b q w : ℕ) → a < b → q < 2 ^ 16 → a * 2 ^ 16 + q < b * 2 ^ 16 + w
-        below a b q w h k = omega arith
-    go (inr l) = same (cost_place f.cost) (cost_place e.cost) f.rule e.rule (ap cost_place l.0) l.1
-      where
-        same : (a b q w : ℕ) → a ≡ b → q < w → a * 2 ^ 16 + q < b * 2 ^ 16 + w
-        same a b q w h k = omega arith
+    go (inl l) = first_decides (cost_place f.cost) (cost_place e.cost) f.rule e.rule (cost_place_less f.cost e.cost c l) r
+    go (inr l) = second_decides (cost_place f.cost) (cost_place e.cost) f.rule e.rule (ap cost_place l.0) l.1
 
 pub total_distance-bettered : (rule : Rule) (r : ℕ) (offer : Option Cost) (old new : Row) → IsBettered rule r offer old new → rule.left < length old → r < 2 ^ 16 → total_distance new < total_distance old
 total_distance-bettered rule r offer old new b h few =
     let f = offer_entry rule r b.kids in
-    let here = entry_at-get_or old rule.left h in
+    let here = place_at-get_or old rule.left h in
     let near : distance (Some f) < distance (get_or old rule.left None) = nearer (get_or old rule.left None) f (IsIn64-capped (price rule) b.kids) few (λ e q k. b.later (subst (λ o. KeepsOut o f) (sym (here ∙ q)) k)) in
-    let s = sum_by-set distance old rule.left (Some f) None h in
-    rw (b.set) (less _ _ _ _ near s)
-  where
-    less : (new old near far : ℕ) → near < far → new + far ≡ old + near → new < old
-    less new old near far h k = omega arith
+    total_falls distance old new rule.left (Some f) b.set h near
 
 pub no_later_trans : (a b c : Entry) → IsNoLater a b → IsNoLater b c → IsNoLater a c
 no_later_trans a b c (inl h) (inl k) = inl (cheaper_trans a.cost b.cost c.cost h k)
@@ -82,10 +70,10 @@ Keeps-trans old mid new h k n e at = let s = h n e at in let z = k n s.0 s.1 in 
 -- a row that took an offer
 module _ (rule : Rule) (r : ℕ) (offer : Option Cost) (old new : Row) (inside : rule.left < length old) (b : IsBettered rule r offer old new) where
   pub new_same : entry_at new rule.left ≡ Some (offer_entry rule r b.kids)
-  new_same = ap (λ x. entry_at x rule.left) b.set ∙ entry_at-set_same old rule.left (Some (offer_entry rule r b.kids)) inside
+  new_same = ap (λ x. entry_at x rule.left) b.set ∙ place_at-set_same old rule.left (Some (offer_entry rule r b.kids)) inside
 
   new_other : (n : ℕ) → (rule.left ≡ n → ⊥) → entry_at new n ≡ entry_at old n
-  new_other n h = ap (λ x. entry_at x n) b.set ∙ entry_at-set_other old rule.left n (Some (offer_entry rule r b.kids)) h
+  new_other n h = ap (λ x. entry_at x n) b.set ∙ place_at-set_other old rule.left n (Some (offer_entry rule r b.kids)) h
 
   sooner : (e : Entry) → entry_at old rule.left ≡ Some e → IsNoLater (offer_entry rule r b.kids) e
   sooner e h = go (later_than e (offer_entry rule r b.kids) (λ k. b.later (subst (λ o. KeepsOut o (offer_entry rule r b.kids)) (sym h) k)))
@@ -167,7 +155,7 @@ module _ (g : Grammar) (rule : Rule) (r : ℕ) (nodes : List Node) (rows : List 
 
   before_is : entry_at old rule.left ≡ before
   unfolding before
-  before_is = entry_at-get_or old rule.left inside
+  before_is = place_at-get_or old rule.left inside
 
   count_old : (c : Cost) → count_to c old ≡ count_to c hole + counts_to c before
   unfolding before

@@ -91,7 +91,3 @@ module _ (g : Grammar) (nodes : List Node) (rows : List Row) (i : ℕ) where
 
     pub long_more : (old : Row) → length row ≡ length old → length new ≡ length old
     long_more old h = ap length b.set ∙ length-set row rule.left (Some (offer_entry rule (k + 1) b.kids)) ∙ h
-
-pub falls_more : (old row new : Row) (changed : Bool) → (changed ≡ false → row ≡ old) → (changed ≡ true → total_distance row < total_distance old) → total_distance new < total_distance row → total_distance new < total_distance old
-falls_more old row new true stays falls h = let f = falls refl in omega arith
-falls_more old row new false stays falls h = subst (λ x. total_distance new < total_distance x) (stays refl) h

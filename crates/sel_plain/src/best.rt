@@ -3,7 +3,7 @@ ghost use Rattle.sel_grammar.specs.PlainTrees.{PlainTree};
 ghost use Rattle.sel_grammar.specs.Chains.{HasNoFreeCycle};
 ghost use Rattle.sel_forest.specs.Postorder.{IsPostorderOf};
 ghost use Rattle.sel_forest.specs.Covers.{IsAnswer};
-ghost use Rattle.sel_grammar.specs.Limits.{IsWithinLimits};
+ghost use Rattle.sel_grammar.specs.Lawful.{IsLawful};
 ghost use Rattle.sel_forest.specs.Postorder.{IsTree};
 
 use crate::cover::{entry_for, written};
@@ -21,7 +21,7 @@ use std::alloc::Global;
 /// lburg). It takes time for each node and rule, and memory for each node and nonterminal.
 pub fn least(alloc: Global, grammar: &Grammar, tree: &Tree) -> Result<Option<Cover>, NoMemory>
     requires tree { IsTree tree.now }
-    requires limits { IsWithinLimits grammar.now }
+    requires lawful { IsLawful grammar.now }
     requires free { HasNoFreeCycle grammar.now }
     ensures { IfOk result (λ answer. (t : PlainTree) → IsPostorderOf tree.now t → IsAnswer grammar.now t answer) }
 {

@@ -1,13 +1,14 @@
 -- The limits of classes, and of the numbers that attributes have.
 use Rattle.std.specs.Prelude.{ℕ, ℤ, pos, negsuc, ◌≤ℤ◌, Option, Some, None}
+use Rattle.sel_range.specs.declared.limits.TheConstants.{MOST_TESTS, GREATEST_CLASS}
 
 -- how many tests there may be: as many as a grammar has rules
 abbrev pub most_tests : ℕ
-most_tests = 1023
+most_tests = MOST_TESTS
 
 -- the greatest class that any tests give, which have two cuts each
 abbrev pub greatest_class : ℕ
-greatest_class = 2047
+greatest_class = GREATEST_CLASS
 
 -- the least signed 64-bit number, -9,223,372,036,854,775,808
 abbrev pub least_number : ℤ

@@ -15,7 +15,7 @@ use Rattle.sel_forest.specs.Places.{IsRootAt, of_node}
 use Rattle.sel_normal.specs.Forms.{parts, inner_parts, head, body}
 use Rattle.sel_normal.specs.Cuts.{HeadAt, BodyAt}
 use Rattle.sel_normal.proofs.Steps.{some_same, some_none}
-use Rattle.sel_items.proofs.Subtrees.{subtrees_long}
+use Rattle.sel_grammar.proofs.Subtrees.{subtrees_long}
 use Rattle.sel_reduce.specs.Goals.{kid_goal, kid_goals, StandsFor, AreBestAt, all_lists, all_costs}
 use Rattle.sel_reduce.proofs.Weights.{weights, weight_is}
 

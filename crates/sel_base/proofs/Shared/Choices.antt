@@ -1,5 +1,5 @@
--- What holds of both sides of a choice, and tests.
-use Rattle.std.proofs.Common.{◌≡◌, ℕ, ◌<◌, ◌≤◌, ◌⊎◌, Bool, true, false, cond, ◌||◌, refl, arith}
+-- What holds of both sides of a choice, tests, and what an option holds.
+use Rattle.std.proofs.Common.{◌≡◌, ℕ, ◌<◌, ◌≤◌, ◌⊎◌, Bool, true, false, cond, ◌||◌, if◌then◌else◌, Option, Some, None, refl, arith}
 
 -- what holds of both holds of the chosen
 pub choose : {X : Type 0} (P : X → Type 0) (b : Bool) (x y : X) → P x → P y → P (cond b x y)
@@ -20,3 +20,13 @@ same_or_other a b = grind arith
 
 pub at_most_or_above : (a b : ℕ) → (a ≤ b) ⊎ (b < a)
 at_most_or_above a b = grind arith
+
+pub some_same : {A : Type 0} {x y : A} → Some x ≡ Some y → x ≡ y
+some_same h = cc
+
+pub some_none : {A : Type 0} {x : A} → Some x ≡ None → ⊥
+some_none h = cc
+
+pub if_some : {A : Type 0} (b : Bool) (x : Option A) (y : A) → (if b then x else None) ≡ Some y → (b ≡ true) × (x ≡ Some y)
+if_some true x y h = (refl, h)
+if_some false x y h = cc

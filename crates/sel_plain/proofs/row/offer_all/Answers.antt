@@ -1,9 +1,10 @@
 -- Each turn keeps the row backed, and either leaves it or brings it nearer to the least row.
 use Rattle.std.proofs.Common.{arith, ◌≡◌, ◌<◌, ◌+◌, length, slice_get, Some, sym, ap, ◌∙◌, refl, subst}
 use Rattle.std.proofs.lemmas.Option.{slice_get_read, slice_get_within}
+use Rattle.sel_base.proofs.Shared.Bettering.{falls_more}
 use Rattle.sel_plain.specs.declared.kind.RuleKind.TheVariants.{Operator}
 use Rattle.sel_plain.specs.Bettering.{Keeps, total_distance, KeepsBacked}
-use Rattle.sel_plain.proofs.Turns.{KindTo, KindTo-more, Operators-bettered, KeepsBacked-bettered, long_more, falls_more}
+use Rattle.sel_plain.proofs.Turns.{KindTo, KindTo-more, Operators-bettered, KeepsBacked-bettered, long_more}
 use Rattle.sel_plain.proofs.Betters.{total_distance-bettered, Keeps-bettered, Keeps-trans}
 use Rattle.sel_plain.proofs.row.offer_all.Goals as goal
 use Rattle.sel_plain.proofs.row.offer_all.Goals.{then-offer_if, else-offer_if}
@@ -31,7 +32,7 @@ loop-k-preserved c =
             stays = λ e. cc;
             withstood = λ e. cc;
             operators = λ q. Operators-bettered g nodes rows c.args.at row new k rule at inside b (i.operators q);
-            falls = λ e. falls_more old row new c.loop-k.changed i.stays i.falls (total_distance-bettered rule _ _ row new b inside (let few = c.requires.limits.rules in omega arith));
+            falls = λ e. falls_more total_distance old row new c.loop-k.changed i.stays i.falls (total_distance-bettered rule _ _ row new b inside (let few = c.requires.limits.rules in omega arith));
             keeps = Keeps-trans old row new i.keeps (Keeps-bettered rule _ _ row new inside b);
             backed = KeepsBacked-bettered g nodes rows c.args.at row new k rule at inside b old i.long i.backed;
           }

@@ -3,7 +3,7 @@ use Rattle.std.proofs.Common.{◌≡◌, List, [], ◌++◌, length, arith, Bool
 use Rattle.sel_grammar.specs.declared.grammar.Pattern.{Pattern, Leaf, Nullary, Unary', Binary', end_of-Pattern, more_of-Pattern}
 use Rattle.sel_grammar.specs.PlainTrees.{PlainTree, Node0, Node1, Node2}
 use Rattle.sel_grammar.specs.Fits.{leaves, subtrees, joined}
-use Rattle.sel_normal.proofs.Steps.{some_same}
+use Rattle.sel_base.proofs.Shared.Choices.{some_same}
 
 pub subtrees_long : (p : Pattern) (t : PlainTree) (ts : List PlainTree) → subtrees p t ≡ Some ts → length (leaves p) ≡ length ts
 subtrees_long (Leaf n) t ts h = ap length (some_same h)
