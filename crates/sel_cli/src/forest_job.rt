@@ -105,20 +105,20 @@ pub fn forest_output<S: Shelf, G: Gate>(
     shelf: &mut S,
     gate: &G,
 ) -> Result<Output, Status>
-    requires grammar { AcceptsGrammar MayBe (record { wanted = Some (task_for command); held = S.held shelf.old }) (task_for command) accepted.now.grammar }
+    requires grammar { AcceptsGrammar MayBe (record { wanted = Some (task_for command); held = (S.told shelf.old).held }) (task_for command) accepted.now.grammar }
     requires form { IsAcceptedForm accepted.now.grammar accepted.now.normal }
     requires settings { AreWithinBounds command.settings }
     requires job { (task_for command).job ≡ OverForest mode name.now }
     ensures made { IfOk result (λ output. (forest : AnyForest)
-        × AcceptsForest MayBe (record { wanted = Some (task_for command.entry); held = S.held shelf.old }) (task_for command.entry) accepted.now.grammar forest
+        × AcceptsForest MayBe (record { wanted = Some (task_for command.entry); held = (S.told shelf.old).held }) (task_for command.entry) accepted.now.grammar forest
         × IsOutput (OverForest mode name.now) accepted.now.grammar (Some forest) output.covered output.text.items) }
-    ensures refused { IfErr result (StopsFor (record { wanted = Some (task_for command.entry); held = S.held shelf.old })
-        (record { before = S.faults shelf.old; after = S.faults shelf.new; last = S.last shelf.new }) name.now) }
-    ensures unchanged { S.held shelf.new ≡ S.held shelf.old }
-    ensures later { S.faults shelf.old ≤ S.faults shelf.new }
-    ensures quiet { (¬ IsErrOf result Status.ReadFault) → S.faults shelf.new ≡ S.faults shelf.old }
-    ensures read { OnOk result (WasRead (record { before = S.faults shelf.old; after = S.faults shelf.new; last = S.last shelf.new }) name.now) }
-    ensures unread { IfErr result (ReadsFor (Some (task_for command.entry)) (record { before = S.faults shelf.old; after = S.faults shelf.new; last = S.last shelf.new })) }
+    ensures refused { IfErr result (StopsFor (record { wanted = Some (task_for command.entry); held = (S.told shelf.old).held })
+        (record { before = (S.told shelf.old).faults; after = (S.told shelf.new).faults; last = (S.told shelf.new).last }) name.now) }
+    ensures unchanged { (S.told shelf.new).held ≡ (S.told shelf.old).held }
+    ensures later { (S.told shelf.old).faults ≤ (S.told shelf.new).faults }
+    ensures quiet { (¬ IsErrOf result Status.ReadFault) → (S.told shelf.new).faults ≡ (S.told shelf.old).faults }
+    ensures read { OnOk result (WasRead (record { before = (S.told shelf.old).faults; after = (S.told shelf.new).faults; last = (S.told shelf.new).last }) name.now) }
+    ensures unread { IfErr result (ReadsFor (Some (task_for command.entry)) (record { before = (S.told shelf.old).faults; after = (S.told shelf.new).faults; last = (S.told shelf.new).last })) }
 {
     let text = match fetch(alloc, shelf, name, FOREST_LIMIT) {
         Ok(text) => text,

@@ -157,8 +157,8 @@ fn put_line(text: &mut Vec<u8>, name: &[u8], status: Status) -> Result<(), NoMem
 /// Puts the status's line. A fault there changes nothing.
 pub fn tell<E: Sink>(alloc: Global, name: &str, status: Status, err: &mut E)
     ensures line { (line : List ℕ) × IsFrontOf line (status_line name.now status)
-        × (E.taken err.new ≡ append_known (E.taken err.old) line) }
-    ensures later { E.faults err.old ≤ E.faults err.new }
+        × ((E.told err.new).taken ≡ append_known ((E.told err.old).taken) line) }
+    ensures later { (E.told err.old).faults ≤ (E.told err.new).faults }
 {
     let mut text = Vec::new(alloc);
     if put_line(&mut text, name.as_bytes(), status).is_ok() {

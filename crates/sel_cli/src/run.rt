@@ -37,10 +37,10 @@ struct Ended<'a> {
 
 // Writes a job's output.
 fn write_output<K: Sink>(out: &mut K, output: &Output) -> Status
-    ensures ends { (bytes : List ℕ) × PutsFor output.now.covered output.now.text.items (K.faults out.old) (K.faults out.new) bytes result
-        × (K.taken out.new ≡ append_known (K.taken out.old) bytes) }
-    ensures later { K.faults out.old ≤ K.faults out.new }
-    ensures quiet { (result ≢ Status.WriteFault) → K.faults out.new ≡ K.faults out.old }
+    ensures ends { (bytes : List ℕ) × PutsFor output.now.covered output.now.text.items ((K.told out.old).faults) ((K.told out.new).faults) bytes result
+        × ((K.told out.new).taken ≡ append_known ((K.told out.old).taken) bytes) }
+    ensures later { (K.told out.old).faults ≤ (K.told out.new).faults }
+    ensures quiet { (result ≢ Status.WriteFault) → (K.told out.new).faults ≡ (K.told out.old).faults }
 {
     match write_all_of(out, &output.text) {
         Ok(()) => {
@@ -59,10 +59,10 @@ fn write_output<K: Sink>(out: &mut K, output: &Output) -> Status
 
 // Prints the accepted grammar.
 fn print<K: Sink>(alloc: Global, grammar: &Grammar, out: &mut K) -> Status
-    ensures ends { (bytes : List ℕ) × WritesJobFor PrintGrammar grammar.now None (K.faults out.old) (K.faults out.new) bytes result
-        × (K.taken out.new ≡ append_known (K.taken out.old) bytes) }
-    ensures later { K.faults out.old ≤ K.faults out.new }
-    ensures quiet { (result ≢ Status.WriteFault) → K.faults out.new ≡ K.faults out.old }
+    ensures ends { (bytes : List ℕ) × WritesJobFor PrintGrammar grammar.now None ((K.told out.old).faults) ((K.told out.new).faults) bytes result
+        × ((K.told out.new).taken ≡ append_known ((K.told out.old).taken) bytes) }
+    ensures later { (K.told out.old).faults ≤ (K.told out.new).faults }
+    ensures quiet { (result ≢ Status.WriteFault) → (K.told out.new).faults ≡ (K.told out.old).faults }
 {
     match grammar_output(alloc, grammar) {
         Ok(output) => write_output(out, &output),
@@ -81,10 +81,10 @@ fn make<K: Sink, G: Gate>(
     requires form { IsAcceptedForm accepted.now.grammar accepted.now.normal }
     requires settings { AreWithinBounds settings }
     ensures ends { (bytes : List ℕ)
-        × WritesJobFor (Make settings.seed settings.trees settings.size) accepted.now.grammar None (K.faults out.old) (K.faults out.new) bytes result
-        × (K.taken out.new ≡ append_known (K.taken out.old) bytes) }
-    ensures later { K.faults out.old ≤ K.faults out.new }
-    ensures quiet { (result ≢ Status.WriteFault) → K.faults out.new ≡ K.faults out.old }
+        × WritesJobFor (Make settings.seed settings.trees settings.size) accepted.now.grammar None ((K.told out.old).faults) ((K.told out.new).faults) bytes result
+        × ((K.told out.new).taken ≡ append_known ((K.told out.old).taken) bytes) }
+    ensures later { (K.told out.old).faults ≤ (K.told out.new).faults }
+    ensures quiet { (result ≢ Status.WriteFault) → (K.told out.new).faults ≡ (K.told out.old).faults }
 {
     match sum_made_forest(alloc, accepted, settings, gate) {
         Ok(output) => write_output(out, &output),
@@ -103,21 +103,21 @@ fn serve_forest<'a, S: Shelf, K: Sink, G: Gate>(
     out: &mut K,
     gate: &G,
 ) -> Ended<'a>
-    requires grammar { AcceptsGrammar MayBe (record { wanted = Some (task_for command); held = S.held shelf.old }) (task_for command) accepted.now.grammar }
+    requires grammar { AcceptsGrammar MayBe (record { wanted = Some (task_for command); held = (S.told shelf.old).held }) (task_for command) accepted.now.grammar }
     requires form { IsAcceptedForm accepted.now.grammar accepted.now.normal }
     requires settings { AreWithinBounds command.settings }
     requires job { (task_for command).job ≡ OverForest mode name.now }
     ensures ends { (bytes : List ℕ)
-        × EndsFor (record { wanted = Some (task_for command.entry); held = S.held shelf.old })
-        (record { before = S.faults shelf.old; after = S.faults shelf.new; last = S.last shelf.new })
-        (K.faults out.old) (K.faults out.new) result.name.now bytes result.status
-        × (K.taken out.new ≡ append_known (K.taken out.old) bytes) }
-    ensures unchanged { S.held shelf.new ≡ S.held shelf.old }
-    ensures later { S.faults shelf.old ≤ S.faults shelf.new }
-    ensures out_later { K.faults out.old ≤ K.faults out.new }
-    ensures quiet { (result.status ≢ Status.ReadFault) → S.faults shelf.new ≡ S.faults shelf.old }
-    ensures out_quiet { (result.status ≢ Status.WriteFault) → K.faults out.new ≡ K.faults out.old }
-    ensures read { ReadsFor (Some (task_for command.entry)) (record { before = S.faults shelf.old; after = S.faults shelf.new; last = S.last shelf.new }) result.status }
+        × EndsFor (record { wanted = Some (task_for command.entry); held = (S.told shelf.old).held })
+        (record { before = (S.told shelf.old).faults; after = (S.told shelf.new).faults; last = (S.told shelf.new).last })
+        ((K.told out.old).faults) ((K.told out.new).faults) result.name.now bytes result.status
+        × ((K.told out.new).taken ≡ append_known ((K.told out.old).taken) bytes) }
+    ensures unchanged { (S.told shelf.new).held ≡ (S.told shelf.old).held }
+    ensures later { (S.told shelf.old).faults ≤ (S.told shelf.new).faults }
+    ensures out_later { (K.told out.old).faults ≤ (K.told out.new).faults }
+    ensures quiet { (result.status ≢ Status.ReadFault) → (S.told shelf.new).faults ≡ (S.told shelf.old).faults }
+    ensures out_quiet { (result.status ≢ Status.WriteFault) → (K.told out.new).faults ≡ (K.told out.old).faults }
+    ensures read { ReadsFor (Some (task_for command.entry)) (record { before = (S.told shelf.old).faults; after = (S.told shelf.new).faults; last = (S.told shelf.new).last }) result.status }
 {
     match forest_output(alloc, command, mode, name, accepted, shelf, gate) {
         Ok(output) => Ended {
@@ -139,16 +139,16 @@ fn serve<'a, S: Shelf, K: Sink, G: Gate>(
     requires settings { AreWithinBounds command.settings }
     requires short { IsShort (source_for command.source) }
     ensures ends { (bytes : List ℕ)
-        × EndsFor (record { wanted = Some (task_for command.entry); held = S.held shelf.old })
-        (record { before = S.faults shelf.old; after = S.faults shelf.new; last = S.last shelf.new })
-        (K.faults out.old) (K.faults out.new) result.name.now bytes result.status
-        × (K.taken out.new ≡ append_known (K.taken out.old) bytes) }
-    ensures unchanged { S.held shelf.new ≡ S.held shelf.old }
-    ensures later { S.faults shelf.old ≤ S.faults shelf.new }
-    ensures out_later { K.faults out.old ≤ K.faults out.new }
-    ensures quiet { (result.status ≢ Status.ReadFault) → S.faults shelf.new ≡ S.faults shelf.old }
-    ensures out_quiet { (result.status ≢ Status.WriteFault) → K.faults out.new ≡ K.faults out.old }
-    ensures read { ReadsFor (Some (task_for command.entry)) (record { before = S.faults shelf.old; after = S.faults shelf.new; last = S.last shelf.new }) result.status }
+        × EndsFor (record { wanted = Some (task_for command.entry); held = (S.told shelf.old).held })
+        (record { before = (S.told shelf.old).faults; after = (S.told shelf.new).faults; last = (S.told shelf.new).last })
+        ((K.told out.old).faults) ((K.told out.new).faults) result.name.now bytes result.status
+        × ((K.told out.new).taken ≡ append_known ((K.told out.old).taken) bytes) }
+    ensures unchanged { (S.told shelf.new).held ≡ (S.told shelf.old).held }
+    ensures later { (S.told shelf.old).faults ≤ (S.told shelf.new).faults }
+    ensures out_later { (K.told out.old).faults ≤ (K.told out.new).faults }
+    ensures quiet { (result.status ≢ Status.ReadFault) → (S.told shelf.new).faults ≡ (S.told shelf.old).faults }
+    ensures out_quiet { (result.status ≢ Status.WriteFault) → (K.told out.new).faults ≡ (K.told out.old).faults }
+    ensures read { ReadsFor (Some (task_for command.entry)) (record { before = (S.told shelf.old).faults; after = (S.told shelf.new).faults; last = (S.told shelf.new).last }) result.status }
     ensures untouched { NeedsNoText (Some (task_for command.entry)) → shelf.new ≡ shelf.old }
 {
     let accepted = match accept_grammar(alloc, shelf, command) {
@@ -183,16 +183,16 @@ fn obey<'a, S: Shelf, K: Sink, G: Gate>(
     gate: &G,
 ) -> Ended<'a>
     ensures ends { (bytes : List ℕ)
-        × EndsFor (record { wanted = command (map string_bytes words.now); held = S.held shelf.old })
-        (record { before = S.faults shelf.old; after = S.faults shelf.new; last = S.last shelf.new })
-        (K.faults out.old) (K.faults out.new) result.name.now bytes result.status
-        × (K.taken out.new ≡ append_known (K.taken out.old) bytes) }
-    ensures unchanged { S.held shelf.new ≡ S.held shelf.old }
-    ensures later { S.faults shelf.old ≤ S.faults shelf.new }
-    ensures out_later { K.faults out.old ≤ K.faults out.new }
-    ensures quiet { (result.status ≢ Status.ReadFault) → S.faults shelf.new ≡ S.faults shelf.old }
-    ensures out_quiet { (result.status ≢ Status.WriteFault) → K.faults out.new ≡ K.faults out.old }
-    ensures read { ReadsFor (command (map string_bytes words.now)) (record { before = S.faults shelf.old; after = S.faults shelf.new; last = S.last shelf.new }) result.status }
+        × EndsFor (record { wanted = command (map string_bytes words.now); held = (S.told shelf.old).held })
+        (record { before = (S.told shelf.old).faults; after = (S.told shelf.new).faults; last = (S.told shelf.new).last })
+        ((K.told out.old).faults) ((K.told out.new).faults) result.name.now bytes result.status
+        × ((K.told out.new).taken ≡ append_known ((K.told out.old).taken) bytes) }
+    ensures unchanged { (S.told shelf.new).held ≡ (S.told shelf.old).held }
+    ensures later { (S.told shelf.old).faults ≤ (S.told shelf.new).faults }
+    ensures out_later { (K.told out.old).faults ≤ (K.told out.new).faults }
+    ensures quiet { (result.status ≢ Status.ReadFault) → (S.told shelf.new).faults ≡ (S.told shelf.old).faults }
+    ensures out_quiet { (result.status ≢ Status.WriteFault) → (K.told out.new).faults ≡ (K.told out.old).faults }
+    ensures read { ReadsFor (command (map string_bytes words.now)) (record { before = (S.told shelf.old).faults; after = (S.told shelf.new).faults; last = (S.told shelf.new).last }) result.status }
     ensures untouched { NeedsNoText (command (map string_bytes words.now)) → shelf.new ≡ shelf.old }
 {
     let status = match read_words(alloc, words) {
@@ -218,26 +218,26 @@ pub fn run<S: Shelf, K: Sink, E: Sink, G: Gate, Rt: Threads + Sync>(
     gate: &G,
 ) -> (Status, Report)
     // Each status comes for its cause, with the bytes that it wrote and a front of its line.
-    ensures ends { Ending (record { wanted = command (map string_bytes words.now); held = S.held shelf.old })
-        (record { before = S.faults shelf.old; after = S.faults shelf.new; last = S.last shelf.new })
-        (K.faults out.old) (K.faults out.new) (K.taken out.old) (K.taken out.new) (E.taken err.old) (E.taken err.new) result.0 }
+    ensures ends { Ending (record { wanted = command (map string_bytes words.now); held = (S.told shelf.old).held })
+        (record { before = (S.told shelf.old).faults; after = (S.told shelf.new).faults; last = (S.told shelf.new).last })
+        ((K.told out.old).faults) ((K.told out.new).faults) ((K.told out.old).taken) ((K.told out.new).taken) ((E.told err.old).taken) ((E.told err.new).taken) result.0 }
     // What the words and told texts decide comes, but for want of memory and faults of the outside.
-    ensures exactly { (status : AnyStatus) → Decides (record { wanted = command (map string_bytes words.now); held = S.held shelf.old }) status
+    ensures exactly { (status : AnyStatus) → Decides (record { wanted = command (map string_bytes words.now); held = (S.told shelf.old).held }) status
         → (result.0 ≡ status) ⊎ IsExcused result.0 }
     // Where the outside has no fault, a task with accepted texts is done to the end.
     ensures complete { (task : AnyTask) (grammar : AnyGrammar) (forest : Option AnyForest)
-        → Accepts IsTold (record { wanted = command (map string_bytes words.now); held = S.held shelf.old }) task grammar forest
-        → ¬ Rose (S.faults shelf.old) (S.faults shelf.new) → ¬ Rose (K.faults out.old) (K.faults out.new)
-        → (result.0 ≡ Status.NoMemory) ⊎ IsAnswered task.job grammar forest (K.taken out.old) (K.taken out.new) result.0 }
+        → Accepts IsTold (record { wanted = command (map string_bytes words.now); held = (S.told shelf.old).held }) task grammar forest
+        → ¬ Rose ((S.told shelf.old).faults) ((S.told shelf.new).faults) → ¬ Rose ((K.told out.old).faults) ((K.told out.new).faults)
+        → (result.0 ≡ Status.NoMemory) ⊎ IsAnswered task.job grammar forest ((K.told out.old).taken) ((K.told out.new).taken) result.0 }
     // Nothing is reported yet.
     ensures report { result.1 ≡ record { evaluated = 0; plain_nodes = 0; row_full = false; used_up = false } }
-    ensures unchanged { S.held shelf.new ≡ S.held shelf.old }
-    ensures quiet { (result.0 ≢ Status.ReadFault) → S.faults shelf.new ≡ S.faults shelf.old }
-    ensures out_quiet { (result.0 ≢ Status.WriteFault) → K.faults out.new ≡ K.faults out.old }
-    ensures read { ReadsFor (command (map string_bytes words.now)) (record { before = S.faults shelf.old; after = S.faults shelf.new; last = S.last shelf.new }) result.0 }
+    ensures unchanged { (S.told shelf.new).held ≡ (S.told shelf.old).held }
+    ensures quiet { (result.0 ≢ Status.ReadFault) → (S.told shelf.new).faults ≡ (S.told shelf.old).faults }
+    ensures out_quiet { (result.0 ≢ Status.WriteFault) → (K.told out.new).faults ≡ (K.told out.old).faults }
+    ensures read { ReadsFor (command (map string_bytes words.now)) (record { before = (S.told shelf.old).faults; after = (S.told shelf.new).faults; last = (S.told shelf.new).last }) result.0 }
     // Nothing is read where the words are no command, or a shipped grammar is printed or a forest made of it.
     ensures untouched { NeedsNoText (command (map string_bytes words.now)) → shelf.new ≡ shelf.old }
-    ensures later { (S.faults shelf.old ≤ S.faults shelf.new) × (K.faults out.old ≤ K.faults out.new) × (E.faults err.old ≤ E.faults err.new) }
+    ensures later { ((S.told shelf.old).faults ≤ (S.told shelf.new).faults) × ((K.told out.old).faults ≤ (K.told out.new).faults) × ((E.told err.old).faults ≤ (E.told err.new).faults) }
 {
     let ended = obey(alloc, words, shelf, out, gate);
     tell(alloc, ended.name, ended.status, err);

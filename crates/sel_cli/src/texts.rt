@@ -27,15 +27,15 @@ pub fn fetch<S: Shelf>(
     name: &str,
     limit: usize,
 ) -> Result<Vec<u8>, Status>
-    ensures text { IfOk result (λ text. MayBe (S.held shelf.old name.now) text.items) }
+    ensures text { IfOk result (λ text. MayBe ((S.told shelf.old).held name.now) text.items) }
     ensures within { IfOk result (λ text. length text.items ≤ limit) }
-    ensures refused { IfErr result (FetchesFor (S.held shelf.old name.now)
-        (record { before = S.faults shelf.old; after = S.faults shelf.new; last = S.last shelf.new }) name.now limit) }
-    ensures unchanged { S.held shelf.new ≡ S.held shelf.old }
-    ensures later { S.faults shelf.old ≤ S.faults shelf.new }
-    ensures quiet { (¬ IsErrOf result Status.ReadFault) → S.faults shelf.new ≡ S.faults shelf.old }
-    ensures read { OnOk result (WasRead (record { before = S.faults shelf.old; after = S.faults shelf.new; last = S.last shelf.new }) name.now) }
-    ensures unread { IfErr result (λ status. (task : Task) → ReadsFor (Some task) (record { before = S.faults shelf.old; after = S.faults shelf.new; last = S.last shelf.new }) status) }
+    ensures refused { IfErr result (FetchesFor ((S.told shelf.old).held name.now)
+        (record { before = (S.told shelf.old).faults; after = (S.told shelf.new).faults; last = (S.told shelf.new).last }) name.now limit) }
+    ensures unchanged { (S.told shelf.new).held ≡ (S.told shelf.old).held }
+    ensures later { (S.told shelf.old).faults ≤ (S.told shelf.new).faults }
+    ensures quiet { (¬ IsErrOf result Status.ReadFault) → (S.told shelf.new).faults ≡ (S.told shelf.old).faults }
+    ensures read { OnOk result (WasRead (record { before = (S.told shelf.old).faults; after = (S.told shelf.new).faults; last = (S.told shelf.new).last }) name.now) }
+    ensures unread { IfErr result (λ status. (task : Task) → ReadsFor (Some task) (record { before = (S.told shelf.old).faults; after = (S.told shelf.new).faults; last = (S.told shelf.new).last }) status) }
 {
     match shelf.read(alloc, name, limit) {
         Ok(text) => Ok(text),
@@ -60,15 +60,15 @@ fn grammar_text<S: Shelf>(
     command: Command<'_>,
 ) -> Result<Vec<u8>, Status>
     requires short { IsShort (source_for command.source) }
-    ensures text { IfOk result (λ text. HasGrammarText MayBe (record { wanted = Some (task_for command.entry); held = S.held shelf.old }) (task_for command.entry) text.items) }
+    ensures text { IfOk result (λ text. HasGrammarText MayBe (record { wanted = Some (task_for command.entry); held = (S.told shelf.old).held }) (task_for command.entry) text.items) }
     ensures within { IfOk result (λ text. length text.items ≤ grammar_limit) }
-    ensures refused { IfErr result (StopsFor (record { wanted = Some (task_for command.entry); held = S.held shelf.old })
-        (record { before = S.faults shelf.old; after = S.faults shelf.new; last = S.last shelf.new }) command.entry.grammar.now) }
-    ensures unchanged { S.held shelf.new ≡ S.held shelf.old }
-    ensures later { S.faults shelf.old ≤ S.faults shelf.new }
-    ensures quiet { (¬ IsErrOf result Status.ReadFault) → S.faults shelf.new ≡ S.faults shelf.old }
-    ensures read { OnOk result (IfSome (grammar_name (task_for command.entry)) (WasRead (record { before = S.faults shelf.old; after = S.faults shelf.new; last = S.last shelf.new }))) }
-    ensures unread { IfErr result (λ status. (task : Task) → ReadsFor (Some task) (record { before = S.faults shelf.old; after = S.faults shelf.new; last = S.last shelf.new }) status) }
+    ensures refused { IfErr result (StopsFor (record { wanted = Some (task_for command.entry); held = (S.told shelf.old).held })
+        (record { before = (S.told shelf.old).faults; after = (S.told shelf.new).faults; last = (S.told shelf.new).last }) command.entry.grammar.now) }
+    ensures unchanged { (S.told shelf.new).held ≡ (S.told shelf.old).held }
+    ensures later { (S.told shelf.old).faults ≤ (S.told shelf.new).faults }
+    ensures quiet { (¬ IsErrOf result Status.ReadFault) → (S.told shelf.new).faults ≡ (S.told shelf.old).faults }
+    ensures read { OnOk result (IfSome (grammar_name (task_for command.entry)) (WasRead (record { before = (S.told shelf.old).faults; after = (S.told shelf.new).faults; last = (S.told shelf.new).last }))) }
+    ensures unread { IfErr result (λ status. (task : Task) → ReadsFor (Some task) (record { before = (S.told shelf.old).faults; after = (S.told shelf.new).faults; last = (S.told shelf.new).last }) status) }
     ensures untouched { grammar_name (task_for command.entry) ≡ None → shelf.new ≡ shelf.old }
 {
     match command.source {
@@ -108,15 +108,15 @@ pub fn accept_grammar<S: Shelf>(
     command: Command<'_>,
 ) -> Result<Accepted, Status>
     requires short { IsShort (source_for command.source) }
-    ensures accepted { IfOk result (λ accepted. AcceptsGrammar MayBe (record { wanted = Some (task_for command.entry); held = S.held shelf.old }) (task_for command.entry) accepted.grammar) }
+    ensures accepted { IfOk result (λ accepted. AcceptsGrammar MayBe (record { wanted = Some (task_for command.entry); held = (S.told shelf.old).held }) (task_for command.entry) accepted.grammar) }
     ensures form { IfOk result (λ accepted. IsAcceptedForm accepted.grammar accepted.normal) }
-    ensures refused { IfErr result (StopsFor (record { wanted = Some (task_for command.entry); held = S.held shelf.old })
-        (record { before = S.faults shelf.old; after = S.faults shelf.new; last = S.last shelf.new }) command.entry.grammar.now) }
-    ensures unchanged { S.held shelf.new ≡ S.held shelf.old }
-    ensures later { S.faults shelf.old ≤ S.faults shelf.new }
-    ensures quiet { (¬ IsErrOf result Status.ReadFault) → S.faults shelf.new ≡ S.faults shelf.old }
-    ensures read { OnOk result (IfSome (grammar_name (task_for command.entry)) (WasRead (record { before = S.faults shelf.old; after = S.faults shelf.new; last = S.last shelf.new }))) }
-    ensures unread { IfErr result (ReadsFor (Some (task_for command.entry)) (record { before = S.faults shelf.old; after = S.faults shelf.new; last = S.last shelf.new })) }
+    ensures refused { IfErr result (StopsFor (record { wanted = Some (task_for command.entry); held = (S.told shelf.old).held })
+        (record { before = (S.told shelf.old).faults; after = (S.told shelf.new).faults; last = (S.told shelf.new).last }) command.entry.grammar.now) }
+    ensures unchanged { (S.told shelf.new).held ≡ (S.told shelf.old).held }
+    ensures later { (S.told shelf.old).faults ≤ (S.told shelf.new).faults }
+    ensures quiet { (¬ IsErrOf result Status.ReadFault) → (S.told shelf.new).faults ≡ (S.told shelf.old).faults }
+    ensures read { OnOk result (IfSome (grammar_name (task_for command.entry)) (WasRead (record { before = (S.told shelf.old).faults; after = (S.told shelf.new).faults; last = (S.told shelf.new).last }))) }
+    ensures unread { IfErr result (ReadsFor (Some (task_for command.entry)) (record { before = (S.told shelf.old).faults; after = (S.told shelf.new).faults; last = (S.told shelf.new).last })) }
     ensures untouched { grammar_name (task_for command.entry) ≡ None → shelf.new ≡ shelf.old }
 {
     let text = match grammar_text(alloc, shelf, command) {

@@ -6,4 +6,4 @@ use Rattle.sel_cli.proofs.lines.tell.Goals as goal
 pub returns-then-is_ok-clause-line : goal.returns-then-is_ok-clause-line
 returns-then-is_ok-clause-line g c =
     let written : c.deref.result.now ≡ status_line c.args.name.now c.args.status = search rules in
-    rw (← written) (told c.write_all_of.result _ _ c.deref.result.now c.write_all_of.ensures.all c.write_all_of.ensures.part)
+    rw (← written) (told c.write_all_of.result _ _ c.deref.result.now c.write_all_of.ensures.told.grown)
