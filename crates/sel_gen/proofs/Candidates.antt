@@ -39,7 +39,7 @@ some_in_filter test (y ∷ xs) (suc k) x h e = go (test y) (some_in_filter test 
     go true below = omega arith
     go false below = below
 
-some_get : {X : Type 0} (xs : List X) (k : ℕ) → k < length xs → (x : X) × (slice_get xs k ≡ Some x)
+pub some_get : {X : Type 0} (xs : List X) (k : ℕ) → k < length xs → (x : X) × (slice_get xs k ≡ Some x)
 some_get [] k h = absurd (omega arith)
 some_get (x ∷ xs) zero h = (x, refl)
 some_get (x ∷ xs) (suc k) h = some_get xs k (omega arith)

@@ -11,3 +11,4 @@ pub mod Candidates
 pub mod Turns
 pub mod Forests
 pub mod OneForest
+pub mod Existence

@@ -31,7 +31,7 @@ same_sizes (x ∷ xs) (y ∷ ys) h k =
     let rest : xs ≡ ys = same_sizes xs ys (omega arith) (λ n l. k (suc n) (omega arith)) in
     (λ i. first i ∷ rest i)
 
-sizes_one : (g : Grammar) (limit : ℕ) (xs ys : Sizes) → AreLeastSizes g limit xs → AreLeastSizes g limit ys → xs ≡ ys
+pub sizes_one : (g : Grammar) (limit : ℕ) (xs ys : Sizes) → AreLeastSizes g limit xs → AreLeastSizes g limit ys → xs ≡ ys
 sizes_one g limit xs ys h k = same_sizes xs ys (h.long ∙ sym k.long) (λ n l. size_one g limit n (size_at xs n) (size_at ys n) (h.least n (subst (λ x. n < x) h.long l)) (k.least n (subst (λ x. n < x) h.long l)))
 
 -- the same tree, and the same words behind it
@@ -62,7 +62,7 @@ module _ (g : Grammar) (sizes : Sizes) where
       let third = subst (λ (x : List ℕ × Lcg). IsFilled Other h.rule.range h.rule.pattern x.0 x.1 u last) both other in
       filled_one Made Other agree h.rule.range h.rule.pattern h.shares h.between t u after last h.filled third
 
-  made_one : (j k n b : ℕ) (before : Lcg) (t u : PlainTree) (after last : Lcg) → IsMadeIn g sizes j n b before t after → IsMadeIn g sizes k n b before u last → Same t u after last
+  pub made_one : (j k n b : ℕ) (before : Lcg) (t u : PlainTree) (after last : Lcg) → IsMadeIn g sizes j n b before t after → IsMadeIn g sizes k n b before u last → Same t u after last
   made_one zero k n b before t u after last h e = absurd h
   made_one (suc j) zero n b before t u after last h e = absurd e
   made_one (suc j) (suc k) n b before t u after last h e = grown_one (IsMadeIn g sizes j) (IsMadeIn g sizes k) (made_one j k) n b before t u after last h e

@@ -51,7 +51,7 @@ AreEnough sizes [] shares = Unit {0}
 AreEnough sizes (n ∷ ns) [] = ⊥
 AreEnough sizes (n ∷ ns) (b ∷ shares) = ((k : ℕ) × (size_at sizes n ≡ Some k) × (k ≤ b)) × AreEnough sizes ns shares
 
-enough_parts : (sizes : Sizes) (ns ms shares : List ℕ) → AreEnough sizes (ns ++ ms) shares → AreEnough sizes ns shares × AreEnough sizes ms (drop (length ns) shares)
+pub enough_parts : (sizes : Sizes) (ns ms shares : List ℕ) → AreEnough sizes (ns ++ ms) shares → AreEnough sizes ns shares × AreEnough sizes ms (drop (length ns) shares)
 enough_parts sizes [] ms shares h = (tt, h)
 enough_parts sizes (n ∷ ns) ms [] h = absurd h
 enough_parts sizes (n ∷ ns) ms (b ∷ shares) h = let r = enough_parts sizes ns ms shares h.1 in ((h.0, r.0), r.1)

@@ -78,6 +78,7 @@ impl<'a> TreeMaker<'a> {
         requires from { 1 ≤ size }
         requires to { size ≤ most_size }
         ensures first { IfOk result (λ maker. (made : List Tree) → AreToCome maker made → IsMadeForest grammar.now seed trees size (record { trees = made })) }
+        ensures comes { IfOk result (λ maker. (made : List Tree) → IsMadeForest grammar.now seed trees size (record { trees = made }) → AreToCome maker made) }
         ensures grammar { IfOk result (λ maker. maker.grammar ≡ grammar.now) }
         ensures few { IfOk result (λ maker. maker.left ≤ trees) }
     {
@@ -100,6 +101,7 @@ impl<'a> TreeMaker<'a> {
     /// forest's limits.
     pub fn next(&mut self, alloc: Global) -> Result<Option<Tree>, NoMemory>
         ensures next { IfOk result (λ answer. IfSome answer (λ tree. (rest : List Tree) → AreToCome self.new rest → AreToCome self.old (tree ∷ rest))) }
+        ensures first { IfOk result (λ answer. IfSome answer (λ tree. (trees : List Tree) → AreToCome self.old trees → (rest : List Tree) × (AreToCome self.new rest × (trees ≡ tree ∷ rest)))) }
         ensures valid { IfOk result (λ answer. IfSome answer (λ tree. IsValidTree self.old.grammar tree)) }
         ensures fewer { IfOk result (λ answer. IfSome answer (λ _. self.new.left + 1 ≡ self.old.left)) }
 
