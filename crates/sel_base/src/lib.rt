@@ -1,6 +1,7 @@
 //! The outside as traits, lists, costs, ranges, and writing to the end.
 #![tactic(auto)]
 
+pub mod digits;
 mod fault;
 mod files;
 mod gate;
@@ -11,6 +12,7 @@ mod range;
 mod shelf;
 mod sink;
 mod steps;
+pub mod text;
 
 pub use fault::{NoMemory, ShelfFault, SinkFault};
 pub use files::{FileShelf, StreamSink};

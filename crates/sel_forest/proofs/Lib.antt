@@ -5,7 +5,6 @@ pub mod Lying
 pub mod LineExamples
 pub mod Viable
 pub mod Strides
-pub mod Digits
 pub mod PutDown
 pub mod Lasts
 pub mod Reading
@@ -13,7 +12,6 @@ pub mod Stepping
 pub mod Lawful
 pub mod Standing
 pub mod LineLoop
-pub mod LineEnds
 pub mod ForestLoop
 pub mod Guessing
 pub mod OneForest

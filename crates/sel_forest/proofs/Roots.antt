@@ -1,4 +1,4 @@
--- The nodes of a tree in postorder: each node has its tree, and the last node has the whole one.
+-- The nodes of a tree in postorder: each node has its tree, and the last node has the whole one. For the proofs of the crates above too.
 use Rattle.std.proofs.Common.{◌≡◌, ℕ, zero, suc, ◌+◌, ◌-◌, ◌<◌, ◌≤◌, ◌⊎◌, inl, inr, Some, List, [], ◌∷◌, ◌++◌, refl, ap, sym, ◌∙◌, subst, slice_get, arith, length, length-append}
 use Rattle.sel_grammar.specs.PlainTrees.{PlainTree, Node0, Node1, Node2, size}
 use Rattle.sel_grammar.specs.declared.grammar.Attribute.{Attribute}
@@ -130,34 +130,36 @@ module _ (nodes : List Node) where
         ),
       )
 
-  abbrev HasTree : ℕ → ℕ → Type 0
-  HasTree j most = (s : PlainTree) × IsRootAt nodes j s × (size s ≤ most)
+  -- what goes from a tree to its kids holds of the tree at each node
+  module _ (P : PlainTree → Type 0) (below_one : (op : ℕ) (a : Attribute) (t : PlainTree) → P (Node1 op a t) → P t) (below_two : (op : ℕ) (a : Attribute) (t u : PlainTree) → P (Node2 op a t u) → P t × P u) where
+    abbrev HasTree : ℕ → ℕ → Type 0
+    HasTree j most = (s : PlainTree) × (IsRootAt nodes j s × (P s × (size s ≤ most)))
 
-  wider : (j most more : ℕ) → most ≤ more → HasTree j most → HasTree j more
-  wider j most more h (s, stands, small) = (s, stands, omega arith)
+    wider : (j most more : ℕ) → most ≤ more → HasTree j most → HasTree j more
+    wider j most more h (s, (stands, (holds, small))) = (s, (stands, (holds, omega arith)))
 
-  stands_each : (t : PlainTree) (base k j : ℕ) → IsPlaced base t → k < size t → j ≡ base + k → HasTree j (size t)
-  stands_each (Node0 op a) base k j h lt e = (Node0 op a, stands_last (Node0 op a) base j h (omega arith), omega arith)
-  stands_each (Node1 op a t) base k j h lt e = go (split k (size t) lt) (λ lt. stands_each t base k j (one_kid base op a t h) lt e)
-    where
-      split : (k n : ℕ) → k < n + 1 → (k < n) ⊎ (k ≡ n)
-      split k n h = grind arith
+    stands_each : (t : PlainTree) (base k j : ℕ) → P t → IsPlaced base t → k < size t → j ≡ base + k → HasTree j (size t)
+    stands_each (Node0 op a) base k j holds h lt e = (Node0 op a, (stands_last (Node0 op a) base j h (omega arith), (holds, omega arith)))
+    stands_each (Node1 op a t) base k j holds h lt e = go (split k (size t) lt) (λ lt. stands_each t base k j (below_one op a t holds) (one_kid base op a t h) lt e)
+      where
+        split : (k n : ℕ) → k < n + 1 → (k < n) ⊎ (k ≡ n)
+        split k n h = grind arith
 
-      go : (k < size t) ⊎ (k ≡ size t) → (k < size t → HasTree j (size t)) → HasTree j (size t + 1)
-      go (inl l) r = wider j (size t) (size t + 1) (omega arith) (r l)
-      go (inr q) r = (Node1 op a t, stands_last (Node1 op a t) base j h (omega arith), omega arith)
-  stands_each (Node2 op a t u) base k j h lt e =
-      go (split k (size t) (size u) lt) (λ lt. stands_each t base k j (first_kid base op a t u h) lt e)
-      (λ lt from. stands_each u (base + size t) (k - size t) j (second_kid base op a t u h) lt from)
-    where
-      split : (k n m : ℕ) → k < n + m + 1 → (k < n) ⊎ (((k - n < m) × (n ≤ k)) ⊎ (k ≡ n + m))
-      split k n m h = grind arith
+        go : (k < size t) ⊎ (k ≡ size t) → (k < size t → HasTree j (size t)) → HasTree j (size t + 1)
+        go (inl l) r = wider j (size t) (size t + 1) (omega arith) (r l)
+        go (inr q) r = (Node1 op a t, (stands_last (Node1 op a t) base j h (omega arith), (holds, omega arith)))
+    stands_each (Node2 op a t u) base k j holds h lt e =
+        go (split k (size t) (size u) lt) (λ lt. stands_each t base k j (below_two op a t u holds).0 (first_kid base op a t u h) lt e)
+        (λ lt from. stands_each u (base + size t) (k - size t) j (below_two op a t u holds).1 (second_kid base op a t u h) lt from)
+      where
+        split : (k n m : ℕ) → k < n + m + 1 → (k < n) ⊎ (((k - n < m) × (n ≤ k)) ⊎ (k ≡ n + m))
+        split k n m h = grind arith
 
-      go : (k < size t) ⊎ (((k - size t < size u) × (size t ≤ k)) ⊎ (k ≡ size t + size u)) → (k < size t → HasTree j (size t))
-          → (k - size t < size u → j ≡ base + size t + (k - size t) → HasTree j (size u)) → HasTree j (size t + size u + 1)
-      go (inl l) r r' = wider j (size t) (size t + size u + 1) (omega arith) (r l)
-      go (inr (inl l)) r r' = wider j (size u) (size t + size u + 1) (omega arith) (r' l.0 (omega arith))
-      go (inr (inr q)) r r' = (Node2 op a t u, stands_last (Node2 op a t u) base j h (omega arith), omega arith)
+        go : (k < size t) ⊎ (((k - size t < size u) × (size t ≤ k)) ⊎ (k ≡ size t + size u)) → (k < size t → HasTree j (size t))
+            → (k - size t < size u → j ≡ base + size t + (k - size t) → HasTree j (size u)) → HasTree j (size t + size u + 1)
+        go (inl l) r r' = wider j (size t) (size t + size u + 1) (omega arith) (r l)
+        go (inr (inl l)) r r' = wider j (size u) (size t + size u + 1) (omega arith) (r' l.0 (omega arith))
+        go (inr (inr q)) r r' = (Node2 op a t u, (stands_last (Node2 op a t u) base j h (omega arith), (holds, omega arith)))
 
 pub stands_root : (nodes : List Node) (t : PlainTree) → nodes ≡ postorder 0 t → IsRootAt nodes (length nodes - 1) t
 unfolding IsPlaced
@@ -168,23 +170,24 @@ stands_root nodes t h =
 pub some_node : (nodes : List Node) (t : PlainTree) → nodes ≡ postorder 0 t → 1 ≤ length nodes
 some_node nodes t h = let long : length nodes ≡ size t = ap length h ∙ length-postorder t 0 in let some = size_some t in omega arith
 
-pub SizesBelow-spelled : (nodes : List Node) (t : PlainTree) (n : ℕ) → nodes ≡ postorder 0 t → size t < n → SizesBelow nodes n
+-- what goes from a tree to its kids holds of the tree at each node
+pub tree_with : (P : PlainTree → Type 0) → ((op : ℕ) (a : Attribute) (t : PlainTree) → P (Node1 op a t) → P t) → ((op : ℕ) (a : Attribute) (t u : PlainTree) → P (Node2 op a t u) → P t × P u)
+    → (nodes : List Node) (t : PlainTree) (i : ℕ) → nodes ≡ postorder 0 t → P t → i < length nodes → (s : PlainTree) × (IsRootAt nodes i s × (P s × (size s ≤ size t)))
 unfolding IsPlaced
-SizesBelow-spelled nodes t n h small i s stands =
+tree_with P below_one below_two nodes t i h holds lt =
     let long : length nodes ≡ size t = ap length h ∙ length-postorder t 0 in
-    let inside = within nodes i s stands in
-    let found = stands_each nodes t 0 i i (λ k j lt e. let q : j ≡ k = omega arith in ap (slice_get nodes) q ∙ ap (λ x. slice_get x k) h) (omega arith) (omega arith) in
-    let same : size s ≡ size found.0 = ap size (same_tree nodes i s found.0 stands found.1) in
-    let most = found.2 in
+    stands_each nodes P below_one below_two t 0 i i holds (λ k j lt e. let q : j ≡ k = omega arith in ap (slice_get nodes) q ∙ ap (λ x. slice_get x k) h) (omega arith) (omega arith)
+
+-- a tree stands at each node
+pub tree_at : (nodes : List Node) (t : PlainTree) (i : ℕ) → nodes ≡ postorder 0 t → i < length nodes → (s : PlainTree) × (IsRootAt nodes i s × (size s ≤ size t))
+tree_at nodes t i h lt = let (s, (stands, (_, small))) = tree_with (λ _. Unit {0}) (λ op a t h. tt) (λ op a t u h. (tt, tt)) nodes t i h tt lt in (s, (stands, small))
+
+pub SizesBelow-spelled : (nodes : List Node) (t : PlainTree) (n : ℕ) → nodes ≡ postorder 0 t → size t < n → SizesBelow nodes n
+SizesBelow-spelled nodes t n h small i s stands =
+    let found = tree_at nodes t i h (within nodes i s stands) in
+    let same : size s ≡ size found.0 = ap size (same_tree nodes i s found.0 stands found.1.0) in
+    let most = found.1.1 in
     omega arith
 
 pub plain_one : PlainTreeIsOne
 plain_one tree t u h k = same_tree tree.nodes (length tree.nodes - 1) t u (stands_root tree.nodes t h) (stands_root tree.nodes u k)
-
--- a tree stands at each node
-pub tree_at : (nodes : List Node) (t : PlainTree) (i : ℕ) → nodes ≡ postorder 0 t → i < length nodes → (s : PlainTree) × (IsRootAt nodes i s × (size s ≤ size t))
-unfolding IsPlaced
-tree_at nodes t i h lt =
-    let long : length nodes ≡ size t = ap length h ∙ length-postorder t 0 in
-    let found = stands_each nodes t 0 i i (λ k j lt e. let q : j ≡ k = omega arith in ap (slice_get nodes) q ∙ ap (λ x. slice_get x k) h) (omega arith) (omega arith) in
-    (found.0, (found.1, found.2))

@@ -2,10 +2,11 @@
 use Rattle.std.specs.Prelude.{◌≡◌, ℕ, List, length, Some, slice_get, All}
 use Rattle.sel_grammar.specs.declared.grammar.Grammar.{Grammar}
 use Rattle.sel_grammar.specs.declared.grammar.Operator.{Operator}
+use Rattle.sel_forest.specs.declared.guess.TheConstants.{PLACES}
 use Rattle.sel_forest.specs.TreeText.{operator_number}
 
 abbrev pub guess_places : ℕ
-guess_places = 4096
+guess_places = PLACES
 
 -- the operator with this number, if there is one, is the first with its name
 abbrev pub IsGuess : Grammar → ℕ → Type 0

@@ -5,20 +5,7 @@ ghost use Rattle.std.specs.Str.Parse.{digits_value, AllDigits};
 ghost use Rattle.sel_forest.specs.TreeText.{is_negative, without_sign, value_of};
 ghost use Rattle.sel_forest.specs.LineFaults.{is_too_large};
 
-/// The number that the digits write, where it is at most the limit.
-fn magnitude(digits: &[u8], limit: u64) -> Option<u64>
-    requires { AllDigits 10 digits.now }
-    ensures { MatchOption result (limit < digits_value 10 digits.now) (λ n. (n ≡ digits_value 10 digits.now) × (n ≤ limit)) }
-{
-    let mut value: u128 = 0;
-    for digit in digits {
-        value = value * 10 + (*digit - b'0') as u128;
-        if value > limit as u128 {
-            return None;
-        }
-    }
-    Some(value as u64)
-}
+use sel_base::digits::number as magnitude;
 
 fn positive(digits: &[u8]) -> Option<i64>
     requires { AllDigits 10 digits.now }

@@ -1,7 +1,6 @@
 //! Forests printed as text.
 
 ghost use Rattle.std.specs.Prelude.{◌≡◌, ◌++◌, ◌∷◌, [], List, IfOk, OnOk};
-ghost use Rattle.std.specs.Fmt.{signed_decimal};
 ghost use Rattle.sel_grammar.specs.PlainTrees.{PlainTree};
 ghost use Rattle.sel_grammar.specs.declared.grammar.Grammar.{Grammar as AnyGrammar};
 ghost use Rattle.sel_forest.specs.declared.forest.Tree.{Tree as AnyTree};
@@ -13,7 +12,7 @@ ghost use Rattle.sel_forest.specs.Valid.{IsValidForest};
 
 use crate::forest::{Forest, Node, Tree};
 use crate::walk::node_at;
-use itoa::Buffer;
+use sel_base::text::{put, put_signed};
 use sel_base::{List, NoMemory};
 use sel_grammar::{Attribute, Grammar};
 use std::alloc::Global;
@@ -24,22 +23,6 @@ pub enum Task {
     Tree(usize),
     Comma,
     Close,
-}
-
-/// Puts the bytes behind the text.
-pub fn put(text: &mut Vec<u8>, bytes: &[u8]) -> Result<(), NoMemory>
-    ensures { OnOk result (text.new.items ≡ text.old.items ++ bytes.now) }
-{
-    text.extend_from_slice(bytes)?;
-    Ok(())
-}
-
-/// Puts the number behind the text, in decimal.
-pub fn put_number(text: &mut Vec<u8>, number: i64) -> Result<(), NoMemory>
-    ensures { OnOk result (text.new.items ≡ text.old.items ++ signed_decimal number) }
-{
-    let mut buffer = Buffer::new();
-    put(text, buffer.format(number).as_bytes())
 }
 
 fn put_name(grammar: &Grammar, operator: u8, text: &mut Vec<u8>) -> Result<(), NoMemory>
@@ -58,7 +41,7 @@ fn put_attribute(attribute: &Attribute, text: &mut Vec<u8>) -> Result<(), NoMemo
         Attribute::Absent => {}
         Attribute::Number(number) => {
             put(text, b":")?;
-            put_number(text, *number)?;
+            put_signed(text, *number)?;
         }
         Attribute::Symbol(symbol) => {
             put(text, b":")?;

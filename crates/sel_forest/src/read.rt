@@ -20,7 +20,7 @@ use crate::line::{State, step, wants_attribute};
 use crate::refusal::{ForestFault, ForestRefusal};
 use crate::taker::Taker;
 use crate::tokens::next_token;
-use memchr::memchr;
+use sel_base::text::{behind, line_len};
 use sel_grammar::Grammar;
 use std::alloc::Global;
 
@@ -29,24 +29,6 @@ use std::alloc::Global;
 struct Cut<'a> {
     line: &'a [u8],
     rest: Option<&'a [u8]>,
-}
-
-/// How many bytes stand before the first line feed, or in all where there is none.
-fn line_len(bytes: &[u8]) -> usize
-    ensures len { result ≡ prefix_len (λ b. not (b == 10)) bytes.now }
-    ensures fits { result ≤ length bytes.now }
-{
-    match memchr(b'\n', bytes) {
-        Some(at) => at,
-        None => bytes.len(),
-    }
-}
-
-fn behind(bytes: &[u8], count: usize) -> &[u8]
-    requires { count ≤ length bytes.now }
-    ensures { result.now ≡ drop count bytes.now }
-{
-    &bytes[count..]
 }
 
 /// The first line of a text.

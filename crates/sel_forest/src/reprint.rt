@@ -16,11 +16,11 @@ ghost use Rattle.sel_forest.specs.Reprinting.{is_above_zero, is_in_print, token_
 ghost use Rattle.sel_forest.specs.TreeText.{without_sign, value_of};
 
 use crate::number::number;
-use crate::print::{put, put_number};
 use crate::read::read_trees;
 use crate::refusal::ForestRefusal;
 use crate::taker::Taker;
 use crate::tokens::Piece;
+use sel_base::text::{put, put_signed};
 use sel_base::{List, NoMemory};
 use sel_grammar::Grammar;
 use std::alloc::Global;
@@ -72,7 +72,7 @@ fn put_numeral(text: &mut Vec<u8>, bytes: &[u8]) -> Result<(), NoMemory>
         return Ok(());
     }
     if let Some(number) = number(bytes) {
-        put_number(text, number)?;
+        put_signed(text, number)?;
     }
     Ok(())
 }

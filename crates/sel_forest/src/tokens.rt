@@ -2,11 +2,11 @@
 
 ghost use Rattle.std.specs.Prelude.{◌≡◌, ℕ, ◌≤◌, length, take, drop};
 ghost use Rattle.std.specs.List.{prefix_len};
-ghost use Rattle.std.specs.Char.{is_ascii_digit};
 ghost use Rattle.sel_forest.specs.Symbols as symbols;
 ghost use Rattle.sel_forest.specs.Tokens as tokens;
 ghost use Rattle.sel_forest.specs.Pieces.{view};
 
+use sel_base::digits::digits_len;
 use sel_grammar::names::{is_letter, is_name_byte};
 
 fn is_blank(b: u8) -> bool
@@ -47,13 +47,6 @@ fn symbol_len(bytes: &[u8]) -> usize
     ensures fits { result ≤ length bytes.now }
 {
     bytes.iter().take_while(|b| is_symbol_byte(**b)).count()
-}
-
-fn digits_len(bytes: &[u8]) -> usize
-    ensures len { result ≡ prefix_len is_ascii_digit bytes.now }
-    ensures fits { result ≤ length bytes.now }
-{
-    bytes.iter().take_while(|b| b.is_ascii_digit()).count()
 }
 
 /// A token, which borrows the line.

@@ -3,7 +3,6 @@ pub mod CostSteps
 pub mod CostLists
 pub mod Shorter
 pub mod DigitTokens
-pub mod Digits
 pub mod FormSound
 pub mod FormComplete
 pub mod Steps

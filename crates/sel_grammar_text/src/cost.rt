@@ -6,8 +6,10 @@ ghost use Rattle.sel_grammar_text.specs.CostText as cost;
 ghost use Rattle.sel_grammar_text.specs.CostPieces.{view, tokens_of};
 ghost use Rattle.sel_grammar_text.specs.Words.{view_word, view_amount, view_cost};
 
-use crate::tokens::{behind, digits_len, name_len, skip};
+use crate::tokens::{name_len, skip};
 use crate::words::{TextWord, WrittenAmount, WrittenCost};
+use sel_base::digits::digits_len;
+use sel_base::text::behind;
 use sel_grammar::names::is_letter;
 
 /// A token of a cost: a name, digits, digits behind their sign, or a single byte.

@@ -7,8 +7,8 @@ ghost use Rattle.sel_grammar_text.specs.Machine as machine;
 ghost use Rattle.sel_grammar_text.specs.ItemNumbers.{HasDigits};
 ghost use Rattle.sel_grammar_text.specs.Pieces.{view};
 
-use crate::number::number;
 use crate::tokens::Piece;
+use sel_base::digits::number;
 use sel_grammar::limits::GREATEST_EXTERNAL;
 
 /// What came last in a text. A flag `started` says whether a start symbol is declared, and a number

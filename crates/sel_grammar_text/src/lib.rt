@@ -13,7 +13,6 @@ pub mod laws;
 mod mark;
 mod meaning;
 mod names;
-mod number;
 mod numbers;
 mod pattern;
 mod place;

@@ -5,8 +5,8 @@ ghost use Rattle.sel_grammar_text.specs.Checks as checks;
 ghost use Rattle.sel_grammar_text.specs.ItemNumbers.{IsBound, IsNumber, IsNumberIfAny, HasNumbersInAmount, HasNumbersIfAny, HasNumbersInCost, HasNumbersInTail};
 ghost use Rattle.sel_grammar_text.specs.Words.{view_word, view_amount, view_cost, view_tail};
 
-use crate::number::number;
 use crate::words::{Tail, TextWord, WrittenAmount, WrittenCost};
+use sel_base::digits::number;
 use sel_grammar::limits::GREATEST_COST;
 
 /// The number is greater than a cost may be.

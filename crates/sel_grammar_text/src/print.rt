@@ -8,33 +8,10 @@ ghost use Rattle.sel_grammar_text.specs.Printing.{printed_byte, printed_part, pr
 ghost use Rattle.sel_grammar_text.specs.GrammarText.{SpellsGrammar};
 ghost use Rattle.sel_grammar_text.specs.PrintedGrammar as spec;
 
-use itoa::Buffer;
+use sel_base::text::{put, put_number, put_signed};
 use sel_base::{List, Name, NoMemory, Range};
 use sel_grammar::{Grammar, Operator, Part, Pattern, Rule, RuleCost};
 use std::alloc::Global;
-
-fn put(text: &mut Vec<u8>, bytes: &[u8]) -> Result<(), NoMemory>
-    ensures { OnOk result (text.new.items ≡ text.old.items ++ bytes.now) }
-{
-    text.extend_from_slice(bytes)?;
-    Ok(())
-}
-
-fn put_number(text: &mut Vec<u8>, number: u32) -> Result<(), NoMemory>
-    ensures { OnOk result (text.new.items ≡ text.old.items ++ decimal number) }
-{
-    let mut buffer = Buffer::new();
-    put(text, buffer.format(number).as_bytes())?;
-    Ok(())
-}
-
-fn put_signed(text: &mut Vec<u8>, number: i64) -> Result<(), NoMemory>
-    ensures { OnOk result (text.new.items ≡ text.old.items ++ signed_decimal number) }
-{
-    let mut buffer = Buffer::new();
-    put(text, buffer.format(number).as_bytes())?;
-    Ok(())
-}
 
 /// The name of that number, and none beyond the last.
 fn name_at(names: &[Name], n: usize) -> &[u8]
@@ -112,7 +89,7 @@ fn put_part(text: &mut Vec<u8>, part: &Part) -> Result<(), NoMemory>
         Part::Text(bytes) => put_text(text, bytes.as_slice()),
         Part::Kid(kid) => {
             put(text, b"%")?;
-            put_number(text, *kid as u32)
+            put_number(text, *kid as u64)
         }
         Part::Attribute => put(text, b"%a"),
         Part::Temp => put(text, b"%c"),
@@ -136,19 +113,19 @@ fn put_second(text: &mut Vec<u8>, second: u16) -> Result<(), NoMemory>
         return Ok(());
     }
     put(text, b",")?;
-    put_number(text, second as u32)
+    put_number(text, second as u64)
 }
 
 fn put_amount(text: &mut Vec<u8>, cost: RuleCost) -> Result<(), NoMemory>
     ensures { OnOk result (text.new.items ≡ text.old.items ++ spec.printed_amount cost) }
 {
     if cost.second == 0 {
-        return put_number(text, cost.first as u32);
+        return put_number(text, cost.first as u64);
     }
     put(text, b"(")?;
-    put_number(text, cost.first as u32)?;
+    put_number(text, cost.first as u64)?;
     put(text, b",")?;
-    put_number(text, cost.second as u32)?;
+    put_number(text, cost.second as u64)?;
     put(text, b")")
 }
 
@@ -188,9 +165,9 @@ fn put_tail(text: &mut Vec<u8>, rule: &Rule) -> Result<(), NoMemory>
     match rule.external {
         Some(external) => {
             put(text, b" = ")?;
-            put_number(text, external)?;
+            put_number(text, external as u64)?;
             put(text, b" (")?;
-            put_number(text, rule.cost.first as u32)?;
+            put_number(text, rule.cost.first as u64)?;
             put_second(text, rule.cost.second)?;
             put(text, b");")
         }
@@ -222,7 +199,7 @@ fn put_operator(text: &mut Vec<u8>, operator: &Operator) -> Result<(), NoMemory>
     put(text, b"%term ")?;
     put(text, operator.name.as_slice())?;
     put(text, b"=")?;
-    put_number(text, operator.external)?;
+    put_number(text, operator.external as u64)?;
     put(text, b"\n")
 }
 

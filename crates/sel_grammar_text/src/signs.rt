@@ -6,7 +6,7 @@ ghost use Rattle.sel_grammar_text.specs.TemplateText.{pieces, first_sign, ends_l
 ghost use Rattle.sel_grammar_text.specs.Checks as checks;
 
 use crate::template::{TemplatePiece, next_piece};
-use crate::tokens::behind;
+use sel_base::text::behind;
 
 /// Whether the template begins with `?` or `#`.
 pub fn begins_reserved(inside: &[u8]) -> bool

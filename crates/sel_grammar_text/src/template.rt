@@ -4,7 +4,7 @@ ghost use Rattle.std.specs.Prelude.{◌≡◌, ◌≤◌, ◌+◌, ◌∷◌, []
 ghost use Rattle.sel_grammar_text.specs.declared.template.TemplatePiece.{TemplatePiece};
 ghost use Rattle.sel_grammar_text.specs.TemplateText.{pieces, unescape, bad_sign, parts_of, template_of, text_part, put, is_text, Adds};
 
-use crate::tokens::behind;
+use sel_base::text::behind;
 use sel_base::{List, NoMemory};
 use sel_grammar::Part;
 use std::alloc::Global;

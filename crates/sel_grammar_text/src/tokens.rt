@@ -10,20 +10,14 @@ ghost use Rattle.sel_grammar_text.specs.Pieces.{view};
 ghost use Rattle.sel_grammar_text.specs.Spots as spots;
 ghost use Rattle.sel_grammar_text.specs.Tokens as tokens;
 
+use sel_base::digits::digits_len;
+use sel_base::text::line_len;
 use sel_grammar::names::{is_letter, is_name_byte};
 
 fn is_blank(b: u8) -> bool
     ensures { result ≡ blanks.is_blank b }
 {
     b == b' ' || b == b'\t' || b == b'\r' || b == 12 || b == b'\n'
-}
-
-/// The bytes behind the first n.
-pub fn behind(bytes: &[u8], n: usize) -> &[u8]
-    requires { n ≤ length bytes.now }
-    ensures { result.now ≡ drop n bytes.now }
-{
-    &bytes[n..]
 }
 
 /// What stands behind the first two such bytes.
@@ -88,20 +82,6 @@ pub fn name_len(bytes: &[u8]) -> usize
     ensures fits { result ≤ length bytes.now }
 {
     bytes.iter().take_while(|b| is_name_byte(**b)).count()
-}
-
-pub fn digits_len(bytes: &[u8]) -> usize
-    ensures len { result ≡ prefix_len is_ascii_digit bytes.now }
-    ensures fits { result ≤ length bytes.now }
-{
-    bytes.iter().take_while(|b| b.is_ascii_digit()).count()
-}
-
-fn line_len(bytes: &[u8]) -> usize
-    ensures len { result ≡ prefix_len tokens.is_on_line bytes.now }
-    ensures fits { result ≤ length bytes.now }
-{
-    bytes.iter().take_while(|b| **b != b'\n').count()
 }
 
 /// A token, which borrows the text.

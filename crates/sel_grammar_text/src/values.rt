@@ -7,8 +7,8 @@ ghost use Rattle.sel_grammar_text.specs.ItemNumbers.{IsBound, IsNumber};
 ghost use Rattle.sel_grammar_text.specs.Meaning as meaning;
 ghost use Rattle.sel_grammar_text.specs.Words.{view_word};
 
-use crate::number::number;
 use crate::words::TextWord;
+use sel_base::digits::number;
 
 /// The number that the digits write, which is at most the limit.
 pub fn value_of(word: &TextWord<'_>, limit: u32) -> u32

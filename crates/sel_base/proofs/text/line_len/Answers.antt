@@ -1,6 +1,6 @@
 use Rattle.std.proofs.Common.{sym}
-use Rattle.sel_forest.proofs.LineEnds.{feed_at, no_feed}
-use Rattle.sel_forest.proofs.read.line_len.Goals as goal
+use Rattle.sel_base.proofs.LineEnds.{feed_at, no_feed}
+use Rattle.sel_base.proofs.text.line_len.Goals as goal
 
 pub returns-in-Some-clause-len : goal.returns-in-Some-clause-len
 returns-in-Some-clause-len c = sym (feed_at c.args.bytes.now c.in-Some.at c.in-Some.ensures)
