@@ -2,7 +2,8 @@
 #![tactic(auto)]
 
 use sel_base::{FileShelf, NoMemory, OpenGate, StreamSink};
-use sel_cli::{Status, run};
+use sel_cli::Status;
+use sel_cli::run::run;
 use std::alloc::Global;
 use std::env;
 use std::process::ExitCode;

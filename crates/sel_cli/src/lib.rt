@@ -6,10 +6,9 @@ mod forest_answers;
 mod forest_job;
 mod lines;
 mod report;
-mod run;
+pub mod run;
 mod status;
 mod texts;
 
 pub use report::Report;
-pub use run::run;
 pub use status::Status;

@@ -1,7 +1,8 @@
 // The calls of the rows: the top call over texts in memory, and the words alone.
 use crate::command::command_told;
 use sel_base::{MemoryShelf, MemorySink, NoMemory, OpenGate};
-use sel_cli::{Status, run};
+use sel_cli::Status;
+use sel_cli::run::run;
 use sel_sheet::{Answer, Calls, Row, words_of};
 use std::alloc::Global;
 use std::marker::Sync;
