@@ -1,0 +1,16 @@
+pub mod Growth
+pub mod Contents
+pub mod Places
+pub mod Interns
+pub mod RowWalks
+pub mod Publishes
+pub mod Sets
+pub mod KidSets
+pub mod Keys
+pub mod Labelled
+pub mod Steps
+pub mod Lists
+pub mod Numbering
+pub mod EntryReads
+pub mod Joins
+pub mod Closings

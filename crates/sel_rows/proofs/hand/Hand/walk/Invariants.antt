@@ -1,0 +1,21 @@
+use Rattle.std.proofs.Common.{◌⊎◌, ◌-◌, ◌≡◌, ℕ, ◌<◌, ◌≤◌, true}
+use Rattle.sel_law.specs.Words.{walk, In}
+use Rattle.sel_law.specs.Kinds.{HeldKey, AllOther, OtherKey}
+use Rattle.sel_rows.specs.Grown.{Grown, KeepsNumber}
+use Rattle.sel_rows.proofs.hand.Hand.walk.Given as goal
+
+abbrev pub invariant-loop-steps : goal.invariant-loop-steps
+invariant-loop-steps g l = record {
+  same : l.self.rows ≡ l.fn.self.rows;
+  place : (l.at ≡ walk l.rows l.home l.steps) × (l.at < l.rows) × (l.steps ≤ l.rows);
+  held : HeldKey l.self.seat.me.0 l.key g.J.Doing.ask;
+  grown : Grown g.J.Doing.asks l.fn.self.seat.me.0 l.self.seat.me.0;
+  own : KeepsNumber l.fn.self.seat.me.0 l.self.seat.me.0;
+  others : (j : ℕ) → j < l.steps → OtherKey l.self.seat.me.0 l.key (walk l.rows l.home j);
+  marks : l.self.seat.me.0.row_full ≡ true → (l.fn.self.seat.me.0.row_full ≡ true) ⊎ AllOther l.self.seat.me.0 l.key;
+  done : l.steps ≡ l.rows → l.self.seat.me.0.row_full ≡ true;
+  stays : (n : ℕ) → In (g.J.Doing.ask, n) l.fn.self.seat.me.0.known → l.self.seat.me.0.row_full ≡ true → l.fn.self.seat.me.0.row_full ≡ true;
+}
+
+abbrev pub decreases-loop-steps : goal.decreases-loop-steps
+decreases-loop-steps g l = l.rows - l.steps

@@ -1,0 +1,209 @@
+use Rattle.std.proofs.Common.{◌≡◌, ◌⊎◌, true, ℕ, ◌<◌, List, length, sym, ap, ◌∙◌, subst, refl, Ok, inl}
+use Rattle.sel_normal.specs.NormalForms.{NormalForm}
+use Rattle.sel_items.specs.declared.items.Items.{Items}
+use Rattle.sel_items.specs.declared.label.Label.TheVariants.{Numbered}
+use Rattle.sel_items.specs.Follows.{key_of}
+use Rattle.sel_items.specs.Labels.{KidsAre, AreKidSets, IsClassOver}
+use Rattle.sel_items.specs.Automata.{IsLabelled}
+use Rattle.sel_law.specs.declared.Setting.{Setting}
+use Rattle.sel_law.specs.Words.{In}
+use Rattle.sel_rows.specs.declared.found.Seen.TheVariants.{Number}
+use Rattle.sel_rows.specs.Meanings.{told_by, Means}
+use Rattle.sel_rows.specs.Answers.{IsPlainAfter}
+use Rattle.sel_rows.proofs.Growth.{grown_then, key_grown}
+use Rattle.sel_rows.proofs.Labelled.{if_ok_of, labelled_key}
+use Rattle.sel_rows.proofs.Steps.{kids_keep, kids_one, means_keep, left_before}
+use Rattle.sel_rows.proofs.pass.Pass.answer_over_numbers.Goals as goal
+
+number_is : (m n : ℕ) → Number m ≡ Number n → m ≡ n
+number_is m n e = cc
+
+pub answer_missed-requires : goal.answer_missed-requires
+answer_missed-requires g c =
+    let s = c.args.self.now in
+    let s1 = c.find_key-seen.new.self in
+    let asks = g.J.Doing.asks in
+    let ask = g.J.Doing.ask in
+    let u = s.hand.seat.me.0 in
+    let v1 = s1.hand.seat.me.0 in
+    let e = c.find_key-seen.ensures in
+    let k = c.requires.key in
+    let ks = c.requires.kids in
+    let a = c.args.kids.0 in
+    let b = c.args.kids.1 in
+    let op = c.args.operator in
+    let class = c.args.class in
+    let same_normal : s1.normal.now ≡ s.normal.now = ap (λ r. r.now) e.kept.1 in
+    let moved : (is : List Items) → KidsAre (Means u s.plain.items) a b is → KidsAre (Means v1 s1.plain.items) a b is =
+    λ is h. kids_keep (Means u s.plain.items) (Means v1 s1.plain.items) (means_keep asks u v1 e.grown s.plain.items s1.plain.items e.plain) a b is h in
+    let long = ap length e.plain in
+    let room = c.requires.room in
+    record {
+      kids = (ks.0, moved ks.0 ks.1, subst (λ (n : NormalForm). AreKidSets n ks.0) (sym same_normal) ks.2);
+      class = subst (λ (n : NormalForm). IsClassOver n class a) (sym same_normal) c.requires.class;
+      room = subst (λ m. m < 4294967296) (sym long) room;
+      key = (k.0, k.1, k.2, key_grown asks u v1 e.grown c.args.key ask k.3, k.4);
+      node = (c.requires.node.0, c.requires.node.1, λ is h. c.requires.node.2 ks.0 ks.1 ∙ ap (λ l. key_of op class l) (kids_one v1 s1.plain.items a b ks.0 is (moved ks.0 ks.1) h));
+      walked = e.seen;
+      missed = λ n q. c.in_default.not-Number n q;
+    }
+
+pub returns-in-Number-clause-labelled : goal.returns-in-Number-clause-labelled
+returns-in-Number-clause-labelled g c =
+    let s = c.args.self.now in
+    let s1 = c.find_key-seen.new.self in
+    let asks = g.J.Doing.asks in
+    let ask = g.J.Doing.ask in
+    let u = s.hand.seat.me.0 in
+    let v1 = s1.hand.seat.me.0 in
+    let e = c.find_key-seen.ensures in
+    let k = c.requires.key in
+    let ks = c.requires.kids in
+    let a = c.args.kids.0 in
+    let b = c.args.kids.1 in
+    let op = c.args.operator in
+    let class = c.args.class in
+    let same_normal : s1.normal.now ≡ s.normal.now = ap (λ r. r.now) e.kept.1 in
+    let moved : (is : List Items) → KidsAre (Means u s.plain.items) a b is → KidsAre (Means v1 s1.plain.items) a b is =
+    λ is h. kids_keep (Means u s.plain.items) (Means v1 s1.plain.items) (means_keep asks u v1 e.grown s.plain.items s1.plain.items e.plain) a b is h in
+    let form : v1.setting.normal.value ≡ s.normal.now = ap (λ (y : Setting). y.normal.value) s1.hand.setting ∙ (s1.normal_is ∙ same_normal) in
+    λ is kd. labelled_key s.normal.now v1 s1.plain.items s1.used_up s1.row_full op class a b is ask c.in-Number.number c.in-Number.ensures.seen form c.requires.node.0 c.requires.node.1 (c.requires.node.2 is kd)
+
+pub returns-in-Number-clause-hit : goal.returns-in-Number-clause-hit
+returns-in-Number-clause-hit g c =
+    let s = c.args.self.now in
+    let s1 = c.find_key-seen.new.self in
+    let asks = g.J.Doing.asks in
+    let ask = g.J.Doing.ask in
+    let u = s.hand.seat.me.0 in
+    let v1 = s1.hand.seat.me.0 in
+    let e = c.find_key-seen.ensures in
+    let k = c.requires.key in
+    let ks = c.requires.kids in
+    let a = c.args.kids.0 in
+    let b = c.args.kids.1 in
+    let op = c.args.operator in
+    let class = c.args.class in
+    let same_normal : s1.normal.now ≡ s.normal.now = ap (λ r. r.now) e.kept.1 in
+    let moved : (is : List Items) → KidsAre (Means u s.plain.items) a b is → KidsAre (Means v1 s1.plain.items) a b is =
+    λ is h. kids_keep (Means u s.plain.items) (Means v1 s1.plain.items) (means_keep asks u v1 e.grown s.plain.items s1.plain.items e.plain) a b is h in
+    λ n kn rf some. (ap (λ m. Ok (Numbered m)) (number_is c.in-Number.number n (c.in-Number.ensures.known n kn rf some)), refl, c.in-Number.ensures.unmarked c.in-Number.number refl ∙ rf)
+
+pub returns-in_default-clause-grown : goal.returns-in_default-clause-grown
+returns-in_default-clause-grown g c =
+    let s = c.args.self.now in
+    let s1 = c.find_key-seen.new.self in
+    let asks = g.J.Doing.asks in
+    let ask = g.J.Doing.ask in
+    let u = s.hand.seat.me.0 in
+    let v1 = s1.hand.seat.me.0 in
+    let e = c.find_key-seen.ensures in
+    let k = c.requires.key in
+    let ks = c.requires.kids in
+    let a = c.args.kids.0 in
+    let b = c.args.kids.1 in
+    let op = c.args.operator in
+    let class = c.args.class in
+    let same_normal : s1.normal.now ≡ s.normal.now = ap (λ r. r.now) e.kept.1 in
+    let moved : (is : List Items) → KidsAre (Means u s.plain.items) a b is → KidsAre (Means v1 s1.plain.items) a b is =
+    λ is h. kids_keep (Means u s.plain.items) (Means v1 s1.plain.items) (means_keep asks u v1 e.grown s.plain.items s1.plain.items e.plain) a b is h in
+    let new = c.answer_missed.new.self in
+    let f = c.answer_missed.ensures in
+    grown_then asks u v1 new.hand.seat.me.0 e.grown f.grown
+
+pub returns-in_default-clause-plain : goal.returns-in_default-clause-plain
+returns-in_default-clause-plain g c =
+    let s = c.args.self.now in
+    let s1 = c.find_key-seen.new.self in
+    let asks = g.J.Doing.asks in
+    let ask = g.J.Doing.ask in
+    let u = s.hand.seat.me.0 in
+    let v1 = s1.hand.seat.me.0 in
+    let e = c.find_key-seen.ensures in
+    let k = c.requires.key in
+    let ks = c.requires.kids in
+    let a = c.args.kids.0 in
+    let b = c.args.kids.1 in
+    let op = c.args.operator in
+    let class = c.args.class in
+    let same_normal : s1.normal.now ≡ s.normal.now = ap (λ r. r.now) e.kept.1 in
+    let moved : (is : List Items) → KidsAre (Means u s.plain.items) a b is → KidsAre (Means v1 s1.plain.items) a b is =
+    λ is h. kids_keep (Means u s.plain.items) (Means v1 s1.plain.items) (means_keep asks u v1 e.grown s.plain.items s1.plain.items e.plain) a b is h in
+    let new = c.answer_missed.new.self in
+    let f = c.answer_missed.ensures in
+    subst (λ l. IsPlainAfter l new.plain.items c.answer_missed.result) e.plain f.plain
+
+pub returns-in_default-clause-labelled : goal.returns-in_default-clause-labelled
+returns-in_default-clause-labelled g c =
+    let s = c.args.self.now in
+    let s1 = c.find_key-seen.new.self in
+    let asks = g.J.Doing.asks in
+    let ask = g.J.Doing.ask in
+    let u = s.hand.seat.me.0 in
+    let v1 = s1.hand.seat.me.0 in
+    let e = c.find_key-seen.ensures in
+    let k = c.requires.key in
+    let ks = c.requires.kids in
+    let a = c.args.kids.0 in
+    let b = c.args.kids.1 in
+    let op = c.args.operator in
+    let class = c.args.class in
+    let same_normal : s1.normal.now ≡ s.normal.now = ap (λ r. r.now) e.kept.1 in
+    let moved : (is : List Items) → KidsAre (Means u s.plain.items) a b is → KidsAre (Means v1 s1.plain.items) a b is =
+    λ is h. kids_keep (Means u s.plain.items) (Means v1 s1.plain.items) (means_keep asks u v1 e.grown s.plain.items s1.plain.items e.plain) a b is h in
+    let new = c.answer_missed.new.self in
+    let f = c.answer_missed.ensures in
+    if_ok_of c.answer_missed.result _ _ (λ l h is kd.
+    subst (λ (n : NormalForm). IsLabelled (told_by n new.hand.seat.me.0 new.plain.items new.used_up new.row_full) op class a b is l) same_normal (h is (moved is kd))) f.labelled
+
+pub returns-in_default-clause-hit : goal.returns-in_default-clause-hit
+returns-in_default-clause-hit g c =
+    let s = c.args.self.now in
+    let s1 = c.find_key-seen.new.self in
+    let asks = g.J.Doing.asks in
+    let ask = g.J.Doing.ask in
+    let u = s.hand.seat.me.0 in
+    let v1 = s1.hand.seat.me.0 in
+    let e = c.find_key-seen.ensures in
+    let k = c.requires.key in
+    let ks = c.requires.kids in
+    let a = c.args.kids.0 in
+    let b = c.args.kids.1 in
+    let op = c.args.operator in
+    let class = c.args.class in
+    let same_normal : s1.normal.now ≡ s.normal.now = ap (λ r. r.now) e.kept.1 in
+    let moved : (is : List Items) → KidsAre (Means u s.plain.items) a b is → KidsAre (Means v1 s1.plain.items) a b is =
+    λ is h. kids_keep (Means u s.plain.items) (Means v1 s1.plain.items) (means_keep asks u v1 e.grown s.plain.items s1.plain.items e.plain) a b is h in
+    let new = c.answer_missed.new.self in
+    let f = c.answer_missed.ensures in
+    λ n kn rf some. absurd (c.in_default.not-Number n (e.known n kn rf some))
+
+pub returns-in_default-clause-cause : goal.returns-in_default-clause-cause
+returns-in_default-clause-cause g c =
+    let s = c.args.self.now in
+    let s1 = c.find_key-seen.new.self in
+    let asks = g.J.Doing.asks in
+    let ask = g.J.Doing.ask in
+    let u = s.hand.seat.me.0 in
+    let v1 = s1.hand.seat.me.0 in
+    let e = c.find_key-seen.ensures in
+    let k = c.requires.key in
+    let ks = c.requires.kids in
+    let a = c.args.kids.0 in
+    let b = c.args.kids.1 in
+    let op = c.args.operator in
+    let class = c.args.class in
+    let same_normal : s1.normal.now ≡ s.normal.now = ap (λ r. r.now) e.kept.1 in
+    let moved : (is : List Items) → KidsAre (Means u s.plain.items) a b is → KidsAre (Means v1 s1.plain.items) a b is =
+    λ is h. kids_keep (Means u s.plain.items) (Means v1 s1.plain.items) (means_keep asks u v1 e.grown s.plain.items s1.plain.items e.plain) a b is h in
+    let new = c.answer_missed.new.self in
+    let f = c.answer_missed.ensures in
+    let keys : s1.hand.rows.now.table.shared.key ≡ s.hand.rows.now.table.shared.key = ap (λ r. r.now.table.shared.key) e.kept.0 in
+    if_ok_of c.answer_missed.result _ _ (λ l h p. left_before asks u v1 new.hand.seat.me.0 e.grown s.spare s1.spare e.kept.2 s.hand.rows.now.table.shared.key s1.hand.rows.now.table.shared.key keys ask new.used_up (h p)) f.cause
+
+label_is : (m n : ℕ) → Numbered m ≡ Numbered n → m ≡ n
+label_is m n e = cc
+
+pub returns-in-Number-clause-published : goal.returns-in-Number-clause-published
+returns-in-Number-clause-published g c = λ n e.
+    subst (λ m. In (g.J.Doing.ask, m) c.find_key-seen.new.self.hand.seat.me.0.known ⊎ (c.find_key-seen.new.self.row_full ≡ true)) (label_is c.in-Number.number n e) (inl c.in-Number.ensures.seen.known)

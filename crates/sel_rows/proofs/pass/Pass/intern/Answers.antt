@@ -1,0 +1,49 @@
+use Rattle.std.proofs.Common.{◌≡◌, ◌*◌, ◌<◌, sym, ap, ◌∙◌, arith, subst, inr, Option, Some, None, MatchOption}
+use Rattle.sel_law.specs.declared.Setting.{Setting}
+use Rattle.sel_law.specs.Words.{content_home}
+use Rattle.sel_rows.proofs.Growth.{grown_then, walked_states_grown}
+use Rattle.sel_rows.proofs.pass.Pass.intern.Goals as goal
+
+pub find_state-requires-clause-home : goal.find_state-requires-clause-home
+unfolding content_home
+find_state-requires-clause-home g c = (c.home_of_words.ensures.is, c.home_of_words.ensures.small)
+
+pub returns-in_err-number-in-Absent-clause-grown : goal.returns-in_err-number-in-Absent-clause-grown
+returns-in_err-number-in-Absent-clause-grown g c =
+    grown_then g.J.Doing.asks c.args.self.now.hand.seat.me.0 c.find_state.new.self.seat.me.0 c.take_number.new.self.hand.seat.me.0 c.find_state.ensures.grown c.take_number.ensures.grown
+
+pub publish-requires-clause-walked : goal.publish-requires-clause-walked
+publish-requires-clause-walked g c =
+    let v = c.find_state.new.self.seat.me.0 in
+    let w = c.take_number.new.self.hand.seat.me.0 in
+    let found = c.in-Absent.ensures.found in
+    let inside = found.0 in
+    let a : c.take_number.new.self.hand.rows.now.states ≡ c.find_state.new.self.rows.now.states = ap (λ r. r.now.states) c.take_number.ensures.kept.0 in
+    let b : c.find_state.new.self.rows.now.states ≡ v.setting.states = c.find_state.new.self.rows.now.states_is ∙ ap (λ s. s.states) (sym c.find_state.new.self.setting) in
+    (omega arith, (walked_states_grown g.J.Doing.asks v w c.take_number.ensures.grown c.args.words.now c.in-Absent.place found.1).0)
+
+pub returns-in-Own-clause-grown : goal.returns-in-Own-clause-grown
+returns-in-Own-clause-grown g c =
+    let asks = g.J.Doing.asks in
+    let u = c.args.self.now.hand.seat.me.0 in
+    let w = c.take_number.new.self.hand.seat.me.0 in
+    grown_then asks u w c.publish.new.self.seat.me.0 (grown_then asks u c.find_state.new.self.seat.me.0 w c.find_state.ensures.grown c.take_number.ensures.grown) c.publish.ensures.grown
+
+pub returns-in-Lost-clause-grown : goal.returns-in-Lost-clause-grown
+returns-in-Lost-clause-grown g c =
+    let asks = g.J.Doing.asks in
+    let u = c.args.self.now.hand.seat.me.0 in
+    let w = c.take_number.new.self.hand.seat.me.0 in
+    grown_then asks u w c.publish.new.self.seat.me.0 (grown_then asks u c.find_state.new.self.seat.me.0 w c.find_state.ensures.grown c.take_number.ensures.grown) c.publish.ensures.grown
+
+of_none : {A : Type 0} (o : Option A) (P : Type 0) (Q : A → Type 0) → o ≡ None → P → MatchOption o P Q
+of_none None P Q e p = p
+of_none (Some x) P Q e p = absurd (cc)
+
+pub returns-in_err-number-in-Absent-clause-number : goal.returns-in_err-number-in-Absent-clause-number
+returns-in_err-number-in-Absent-clause-number g c =
+    let v = c.find_state.new.self.seat.me.0 in
+    let w = c.take_number.new.self.hand.seat.me.0 in
+    let found = c.in-Absent.ensures.found in
+    let t = c.take_number.ensures in
+    of_none c.from_residual.result _ _ c.from_residual.ensures (c.in_err-number-in-Absent.ensures.number.0, c.in_err-number-in-Absent.ensures.number.1, inr (c.in-Absent.place, v.steps, subst (λ (s : Setting). c.in-Absent.place < 2 * s.states) (sym t.grown.setting) found.0, (walked_states_grown g.J.Doing.asks v w t.grown c.args.words.now c.in-Absent.place found.1).0, found.2, t.last ∙ found.3))

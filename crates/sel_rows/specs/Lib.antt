@@ -1,0 +1,16 @@
+pub mod FoundState
+pub mod Grown
+pub mod Held
+pub mod Meanings
+pub mod FoundRow
+pub mod Published
+pub mod Keys
+pub mod Answers
+pub mod SeenKey
+pub mod Parts
+pub mod Closed
+pub mod Told
+pub mod Tables
+pub mod Snapshots
+pub mod Numbered
+pub mod Closing

@@ -1,0 +1,219 @@
+//! How a pass labels a node.
+ghost use Rattle.std.specs.Prelude.{◌≡◌, ◌<◌, ◌≤◌, ◌^◌, ◌++◌, ◌∷◌, ◌⊎◌, [], ℕ, List, Some, None, Ok, length, true, false, IfOk};
+ghost use Rattle.sel_items.specs.declared.items.Items.{Items};
+ghost use Rattle.sel_items.specs.declared.label.Label.{Label};
+ghost use Rattle.sel_items.specs.Follows.{key_of};
+ghost use Rattle.sel_items.specs.Labels.{KidsAre, AreKidSets, IsClassOver, AreNumbered};
+ghost use Rattle.sel_items.specs.Automata.{IsLabelled};
+ghost use Rattle.sel_law.specs.Words.{In, IsKey, IsMadeOf, HasPackedKids, node_key};
+ghost use Rattle.sel_law.specs.Kinds.{HeldKey, HeldNumber, HeldWhole, WalkedRow};
+ghost use Rattle.sel_rows.specs.Grown.{Grown};
+ghost use Rattle.sel_rows.specs.Held.{held_ask};
+ghost use Rattle.sel_rows.specs.Keys.{key_number};
+ghost use Rattle.sel_rows.specs.Meanings.{Means, told_by};
+ghost use Rattle.sel_rows.specs.SeenKey.{IsSeen, FindsOwn};
+ghost use Rattle.sel_rows.specs.Answers.{GrownFor, IsPlainAfter, IsPublished, AnswersKnown, PlainCause, IsTabledAs};
+
+use crate::found::{Placed, Seen};
+use crate::kids::key_number;
+use crate::pass::Pass;
+use crate::words::{home_of_key, words_of};
+use sel_base::{NoMemory, Steps};
+use sel_items::laws::entries_have_rules;
+use sel_items::{Label, fits};
+use sel_law::Doing;
+use std::alloc::Global;
+use std::marker::Brand;
+use std::sync::ledger::Ledger;
+
+impl<'r> Pass<'r> {
+    /// Looks the key up. A row without words is full.
+    fn find_key<J: Doing>(&mut self, key: u64) -> Seen
+        requires key { (J.key ≡ key) × IsKey key × HeldKey self.old.hand.seat.me.0 key J.ask × In J.ask J.asks }
+        ensures grown { Grown J.asks self.old.hand.seat.me.0 self.new.hand.seat.me.0 }
+        ensures kept { (self.new.hand.rows ≡ self.old.hand.rows) × (self.new.normal ≡ self.old.normal) × (self.new.spare ≡ self.old.spare) }
+        ensures plain { self.new.plain.items ≡ self.old.plain.items }
+        ensures row_full { self.old.row_full ≡ true → self.new.row_full ≡ true }
+        ensures seen { IsSeen self.new.hand.seat.me.0 key J.ask self.new.row_full result }
+        ensures known { FindsOwn self.old.hand.seat.me.0 J.ask self.old.row_full result }
+        ensures unmarked { (n : ℕ) → result ≡ Seen.Number n → self.new.row_full ≡ self.old.row_full }
+    {
+        if self.hand.rows.rows == 0 {
+            self.row_full = true;
+            return Seen::Full;
+        }
+        match self.hand.walk::<J>(key, home_of_key(key)) {
+            Seen::Number(number) => Seen::Number(number),
+            Seen::Absent(place) => Seen::Absent(place),
+            Seen::Full => {
+                self.row_full = true;
+                Seen::Full
+            }
+        }
+    }
+
+    /// Puts the key with its number into the row, from where its walk ended.
+    fn publish_key<J: Doing>(&mut self, key: u64, seen: Seen, number: u64) -> u64
+        requires key { (J.key ≡ key) × IsKey key × (key < 2 ^ 48) × HeldKey self.old.hand.seat.me.0 key J.ask × In J.ask J.asks }
+        requires walked { IsSeen self.old.hand.seat.me.0 key J.ask self.old.row_full seen }
+        requires missed { (n : ℕ) → seen ≡ Seen.Number n → ⊥ }
+        requires number { (number < self.old.hand.rows.now.states) × HeldNumber self.old.hand.seat.me.0 number × ((c : List ℕ) × HeldWhole self.old.hand.seat.me.0 number c × IsMadeOf self.old.hand.rows.now.table.shared.key J.ask c) }
+        ensures grown { Grown J.asks self.old.hand.seat.me.0 self.new.hand.seat.me.0 }
+        ensures kept { (self.new.hand.rows ≡ self.old.hand.rows) × (self.new.normal ≡ self.old.normal) }
+        ensures plain { self.new.plain.items ≡ self.old.plain.items }
+        ensures row_full { self.old.row_full ≡ true → self.new.row_full ≡ true }
+        ensures number { IsPublished self.new.hand.seat.me.0 J.ask self.new.row_full number result }
+    {
+        match seen {
+            Seen::Absent(place) => {
+                match self
+                    .hand
+                    .place::<Brand>(key, home_of_key(key), place, number)
+                {
+                    Placed::Known(known) => known,
+                    Placed::RowFull => {
+                        self.row_full = true;
+                        number
+                    }
+                }
+            }
+            Seen::Full => number,
+            Seen::Number(_) => unreachable!(),
+        }
+    }
+}
+
+impl<'r> Pass<'r> {
+    /// The label of a node over a plain kid.
+    fn answer_over_plain<J: Doing, L: Ledger>(
+        &mut self,
+        alloc: Global,
+        operator: u8,
+        class: u16,
+        kids: (Option<Label>, Option<Label>),
+        steps: &mut Steps<L>,
+    ) -> Result<Label, NoMemory>
+        requires kids { (is : List Items) × KidsAre (Means self.old.hand.seat.me.0 self.old.plain.items) kids.0 kids.1 is × AreKidSets self.old.normal.now is }
+        requires class { IsClassOver self.old.normal.now class kids.0 }
+        requires room { length self.old.plain.items < 2 ^ 32 }
+        requires plain { key_number operator class kids.0 kids.1 ≡ None }
+        ensures grown { Grown J.asks self.old.hand.seat.me.0 self.new.hand.seat.me.0 }
+        ensures kept { (self.new.hand.rows ≡ self.old.hand.rows) × (self.new.normal ≡ self.old.normal) }
+        ensures row_full { self.old.row_full ≡ true → self.new.row_full ≡ true }
+        ensures plain { IsPlainAfter self.old.plain.items self.new.plain.items result }
+        ensures labelled { IfOk result (λ l. (is : List Items) → KidsAre (Means self.old.hand.seat.me.0 self.old.plain.items) kids.0 kids.1 is
+            → IsLabelled (told_by self.old.normal.now self.new.hand.seat.me.0 self.new.plain.items self.new.used_up self.new.row_full) operator class kids.0 kids.1 is l) }
+        ensures steps { steps.old ≤ steps.new }
+    {
+        let items = self.evaluate_kids::<J, L>(alloc, operator, class, kids, steps)?;
+        self.add_plain(items)
+    }
+
+    /// The label of a node whose key wasn't found.
+    fn answer_missed<J: Doing, L: Ledger>(
+        &mut self,
+        alloc: Global,
+        operator: u8,
+        class: u16,
+        kids: (Option<Label>, Option<Label>),
+        key: u64,
+        seen: Seen,
+        steps: &mut Steps<L>,
+    ) -> Result<Label, NoMemory>
+        requires kids { (is : List Items) × KidsAre (Means self.old.hand.seat.me.0 self.old.plain.items) kids.0 kids.1 is × AreKidSets self.old.normal.now is }
+        requires class { IsClassOver self.old.normal.now class kids.0 }
+        requires room { length self.old.plain.items < 2 ^ 32 }
+        requires key { (J.key ≡ key) × IsKey key × (key < 2 ^ 48) × HeldKey self.old.hand.seat.me.0 key J.ask × In J.ask J.asks }
+        requires node { AreNumbered kids.0 kids.1 × HasPackedKids J.ask × ((is : List Items) → KidsAre (Means self.old.hand.seat.me.0 self.old.plain.items) kids.0 kids.1 is → node_key J.ask ≡ key_of operator class is) }
+        requires walked { IsSeen self.old.hand.seat.me.0 key J.ask self.old.row_full seen }
+        requires missed { (n : ℕ) → seen ≡ Seen.Number n → ⊥ }
+        ensures grown { Grown J.asks self.old.hand.seat.me.0 self.new.hand.seat.me.0 }
+        ensures kept { (self.new.hand.rows ≡ self.old.hand.rows) × (self.new.normal ≡ self.old.normal) }
+        ensures row_full { self.old.row_full ≡ true → self.new.row_full ≡ true }
+        ensures plain { IsPlainAfter self.old.plain.items self.new.plain.items result }
+        ensures labelled { IfOk result (λ l. (is : List Items) → KidsAre (Means self.old.hand.seat.me.0 self.old.plain.items) kids.0 kids.1 is
+            → IsLabelled (told_by self.old.normal.now self.new.hand.seat.me.0 self.new.plain.items self.new.used_up self.new.row_full) operator class kids.0 kids.1 is l) }
+        ensures published { IsTabledAs self.new.hand.seat.me.0 J.ask self.new.row_full result }
+        ensures cause { PlainCause self.old.hand.seat.me.0 self.old.spare self.old.hand.rows.now.table.shared.key J.ask self.new.used_up self.new.hand.seat.me.0 result }
+        ensures steps { steps.old ≤ steps.new }
+    {
+        let items = self.evaluate_kids::<J, L>(alloc, operator, class, kids, steps)?;
+        if !fits(&items) {
+            return self.add_plain(items);
+        }
+        self.normal.is_standing();
+        entries_have_rules();
+        let words = words_of(alloc, &items)?;
+        match self.intern::<J>(words.as_slice()) {
+            None => self.add_plain(items),
+            Some(number) => {
+                let known = self.publish_key::<J>(key, seen, number);
+                Ok(Label::Numbered(known as u16))
+            }
+        }
+    }
+
+    /// The label of a node over numbered kids or none.
+    fn answer_over_numbers<J: Doing, L: Ledger>(
+        &mut self,
+        alloc: Global,
+        operator: u8,
+        class: u16,
+        kids: (Option<Label>, Option<Label>),
+        key: u64,
+        steps: &mut Steps<L>,
+    ) -> Result<Label, NoMemory>
+        requires kids { (is : List Items) × KidsAre (Means self.old.hand.seat.me.0 self.old.plain.items) kids.0 kids.1 is × AreKidSets self.old.normal.now is }
+        requires class { IsClassOver self.old.normal.now class kids.0 }
+        requires room { length self.old.plain.items < 2 ^ 32 }
+        requires key { (J.key ≡ key) × IsKey key × (key < 2 ^ 48) × HeldKey self.old.hand.seat.me.0 key J.ask × In J.ask J.asks }
+        requires node { AreNumbered kids.0 kids.1 × HasPackedKids J.ask × ((is : List Items) → KidsAre (Means self.old.hand.seat.me.0 self.old.plain.items) kids.0 kids.1 is → node_key J.ask ≡ key_of operator class is) }
+        ensures grown { Grown J.asks self.old.hand.seat.me.0 self.new.hand.seat.me.0 }
+        ensures kept { (self.new.hand.rows ≡ self.old.hand.rows) × (self.new.normal ≡ self.old.normal) }
+        ensures row_full { self.old.row_full ≡ true → self.new.row_full ≡ true }
+        ensures plain { IsPlainAfter self.old.plain.items self.new.plain.items result }
+        ensures labelled { IfOk result (λ l. (is : List Items) → KidsAre (Means self.old.hand.seat.me.0 self.old.plain.items) kids.0 kids.1 is
+            → IsLabelled (told_by self.old.normal.now self.new.hand.seat.me.0 self.new.plain.items self.new.used_up self.new.row_full) operator class kids.0 kids.1 is l) }
+        ensures hit { AnswersKnown self.old.hand.seat.me.0 J.ask self.old.row_full self.new.row_full steps.old steps.new result }
+        ensures published { IsTabledAs self.new.hand.seat.me.0 J.ask self.new.row_full result }
+        ensures cause { PlainCause self.old.hand.seat.me.0 self.old.spare self.old.hand.rows.now.table.shared.key J.ask self.new.used_up self.new.hand.seat.me.0 result }
+        ensures steps { steps.old ≤ steps.new }
+    {
+        let seen = self.find_key::<J>(key);
+        match seen {
+            Seen::Number(number) => Ok(Label::Numbered(number as u16)),
+            _ => self.answer_missed::<J, L>(alloc, operator, class, kids, key, seen, steps),
+        }
+    }
+
+    /// The label of a node.
+    pub fn answer<L: Ledger>(
+        &mut self,
+        alloc: Global,
+        operator: u8,
+        class: u16,
+        kids: (Option<Label>, Option<Label>),
+        steps: &mut Steps<L>,
+    ) -> Result<Label, NoMemory>
+        requires kids { (is : List Items) × KidsAre (Means self.old.hand.seat.me.0 self.old.plain.items) kids.0 kids.1 is × AreKidSets self.old.normal.now is }
+        requires class { IsClassOver self.old.normal.now class kids.0 }
+        requires room { length self.old.plain.items < 2 ^ 32 }
+        ensures grown { GrownFor self.old.hand.seat.me.0 self.old.plain.items operator class kids.0 kids.1 self.new.hand.seat.me.0 }
+        ensures kept { (self.new.hand.rows ≡ self.old.hand.rows) × (self.new.normal ≡ self.old.normal) }
+        ensures row_full { self.old.row_full ≡ true → self.new.row_full ≡ true }
+        ensures plain { IsPlainAfter self.old.plain.items self.new.plain.items result }
+        ensures labelled { IfOk result (λ l. (is : List Items) → KidsAre (Means self.old.hand.seat.me.0 self.old.plain.items) kids.0 kids.1 is
+            → IsLabelled (told_by self.old.normal.now self.new.hand.seat.me.0 self.new.plain.items self.new.used_up self.new.row_full) operator class kids.0 kids.1 is l) }
+        ensures hit { (x : ℕ) → key_number operator class kids.0 kids.1 ≡ Some x → AnswersKnown self.old.hand.seat.me.0 (held_ask self.old.hand.seat.me.0 x) self.old.row_full self.new.row_full steps.old steps.new result }
+        ensures published { (x : ℕ) → key_number operator class kids.0 kids.1 ≡ Some x → IsTabledAs self.new.hand.seat.me.0 (held_ask self.old.hand.seat.me.0 x) self.new.row_full result }
+        ensures cause { (x : ℕ) → key_number operator class kids.0 kids.1 ≡ Some x → PlainCause self.old.hand.seat.me.0 self.old.spare self.old.hand.rows.now.table.shared.key (held_ask self.old.hand.seat.me.0 x) self.new.used_up self.new.hand.seat.me.0 result }
+        ensures steps { steps.old ≤ steps.new }
+    {
+        match key_number(operator, class, kids) {
+            None => self.answer_over_plain::<Brand, L>(alloc, operator, class, kids, steps),
+            Some(key) => self.answer_over_numbers::<Brand, L>(
+                alloc, operator, class, kids, key, steps,
+            ),
+        }
+    }
+}
