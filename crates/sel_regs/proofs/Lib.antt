@@ -1,0 +1,10 @@
+pub mod Counting
+pub mod Sharing
+pub mod Examples
+pub mod OneScan
+pub mod SomeScan
+pub mod Noting
+pub mod Sets
+pub mod Buckets
+pub mod Passing
+pub mod Sweeping
