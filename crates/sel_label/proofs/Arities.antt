@@ -17,26 +17,12 @@ use Rattle.sel_normal.proofs.Kept.{form_cut}
 use Rattle.sel_normal.proofs.Steps.{some_same, some_none}
 use Rattle.sel_items.specs.declared.label.Label.{Label}
 use Rattle.sel_items.specs.Labels.{AreAlike, HasLawfulKids}
-
-abbrev AllOf : (Pattern → Type 0) → List Pattern → Type 0
-AllOf P ps = (j : ℕ) (p : Pattern) → slice_get ps j ≡ Some p → P p
-
-both_lists : (P : Pattern → Type 0) (ps qs : List Pattern) → AllOf P ps → AllOf P qs → AllOf P (ps ++ qs)
-both_lists P [] qs h k j p e = k j p e
-both_lists P (x ∷ ps) qs h k zero p e = h zero p e
-both_lists P (x ∷ ps) qs h k (suc j) p e = both_lists P ps qs (λ j p e. h (suc j) p e) k j p e
-
-one_more : (P : Pattern → Type 0) (x : Pattern) (ps : List Pattern) → P x → AllOf P ps → AllOf P (x ∷ ps)
-one_more P x ps h k zero p e = subst P (some_same e) h
-one_more P x ps h k (suc j) p e = k j p e
-
-no_parts : (P : Pattern → Type 0) → AllOf P []
-no_parts P j p e = absurd (some_none (sym e))
+use Rattle.sel_label.proofs.Lists.{AllOf, both_lists, one_more, no_items}
 
 module _ (g : Grammar) where
   parts_lawful : (p : Pattern) → IsPatternOf g p → AllOf (IsPatternOf g) (parts p)
-  parts_lawful (Leaf n) h = no_parts (IsPatternOf g)
-  parts_lawful (Nullary op) h = one_more (IsPatternOf g) (Nullary op) [] h (no_parts (IsPatternOf g))
+  parts_lawful (Leaf n) h = no_items (IsPatternOf g)
+  parts_lawful (Nullary op) h = one_more (IsPatternOf g) (Nullary op) [] h (no_items (IsPatternOf g))
   parts_lawful (Unary' op s (more_of-Pattern p end_of-Pattern)) h =
       one_more (IsPatternOf g) (Unary' op s (more_of-Pattern p end_of-Pattern)) (parts p) h (parts_lawful p h.1)
   parts_lawful (Binary' op s (more_of-Pattern p end_of-Pattern) s' (more_of-Pattern q end_of-Pattern)) h =
@@ -44,14 +30,14 @@ module _ (g : Grammar) where
       (both_lists (IsPatternOf g) (parts p) (parts q) (parts_lawful p (h.1).0) (parts_lawful q (h.1).1))
 
   inner_lawful : (p : Pattern) → IsPatternOf g p → AllOf (IsPatternOf g) (inner_parts p)
-  inner_lawful (Leaf n) h = no_parts (IsPatternOf g)
-  inner_lawful (Nullary op) h = no_parts (IsPatternOf g)
+  inner_lawful (Leaf n) h = no_items (IsPatternOf g)
+  inner_lawful (Nullary op) h = no_items (IsPatternOf g)
   inner_lawful (Unary' op s (more_of-Pattern p end_of-Pattern)) h = parts_lawful p h.1
   inner_lawful (Binary' op s (more_of-Pattern p end_of-Pattern) s' (more_of-Pattern q end_of-Pattern)) h =
       both_lists (IsPatternOf g) (parts p) (parts q) (parts_lawful p (h.1).0) (parts_lawful q (h.1).1)
 
   places_lawful : (rules : List Rule) → ((k : ℕ) (rule : Rule) → slice_get rules k ≡ Some rule → IsPatternOf g rule.pattern) → AllOf (IsPatternOf g) (places rules)
-  places_lawful [] h = no_parts (IsPatternOf g)
+  places_lawful [] h = no_items (IsPatternOf g)
   places_lawful (rule ∷ rules) h =
       both_lists (IsPatternOf g) (inner_parts rule.pattern) (places rules) (inner_lawful rule.pattern (h 0 rule refl))
       (places_lawful rules (λ k rule e. h (suc k) rule e))

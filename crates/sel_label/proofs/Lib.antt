@@ -3,6 +3,7 @@ pub mod Calls
 pub mod Fitting
 pub mod Growing
 pub mod Keys
+pub mod Lists
 pub mod NewLabels
 pub mod NodeTrees
 pub mod Whole
