@@ -7,3 +7,4 @@ pub mod Leading
 pub mod KidValues
 pub mod Lines
 pub mod Wholes
+pub mod Numbering

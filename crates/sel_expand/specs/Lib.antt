@@ -5,3 +5,4 @@ pub mod Sizes
 pub mod Books
 pub mod Printing
 pub mod Expanding
+pub mod Pieces

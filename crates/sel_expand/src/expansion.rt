@@ -1,11 +1,14 @@
-ghost use Rattle.std.specs.Prelude.{◌≡◌, ◌++◌, ℕ, List, true, IfOk, IfSome, IsNone, Option, Some};
+ghost use Rattle.std.specs.Prelude.{◌≡◌, ◌++◌, ℕ, List, true, IfOk, IfSome, IsNone, None, Option, Some};
 ghost use Rattle.sel_grammar.specs.Expansions.{emitted_bytes, text_bytes};
 ghost use Rattle.sel_forest.specs.Postorder.{IsTree};
 ghost use Rattle.sel_expand.specs.Printing.{HasTexts, AreAllPrinted};
 ghost use Rattle.sel_expand.specs.Expanding.{IsCovered, IsText, IsTooLong, IsEmitted};
+ghost use Rattle.sel_expand.specs.Pieces.{pieces_text, AreNumbered};
+ghost use Rattle.sel_expand.specs.declared.cutting.Piece.{Piece};
 
 use crate::book::Book;
 use crate::booking::book_all;
+use crate::cutting::{Piece, cut};
 use crate::places::{Step, Task, place_all};
 use crate::printing::{Job, Spot, print_line, print_value};
 use crate::sizes::length_at;
@@ -177,6 +180,29 @@ impl Expander {
             None => Ok(Expansion::TooLong),
         }
     }
+
+    /// As the function `pieces`, in the room of the expander.
+    pub fn pieces(
+        &mut self,
+        alloc: Global,
+        grammar: &Grammar,
+        tree: &Tree,
+        cover: &Cover,
+    ) -> Result<Option<List<Piece>>, NoMemory>
+        requires tree { IsTree tree.now }
+        requires covered { IsCovered grammar.now tree.now cover.now.rules }
+        ensures some { IfOk result (λ answer. (ps : List Piece) → answer ≡ Some ps → IsEmitted grammar.now tree.now cover.now.rules (pieces_text ps)) }
+        ensures numbered { IfOk result (λ answer. (ps : List Piece) → answer ≡ Some ps → AreNumbered (pieces_text ps)) }
+        ensures none { IfOk result (λ answer. answer ≡ None → IsTooLong grammar.now tree.now cover.now.rules) }
+    {
+        match self.emit(grammar, tree, cover)? {
+            Some(_) => {
+                let pieces = cut(alloc, self.text.as_slice())?;
+                Ok(Some(pieces))
+            }
+            None => Ok(None),
+        }
+    }
 }
 
 /// The text that the cover's derivation expands to, or `TooLong` exactly where that has more than
@@ -207,4 +233,21 @@ pub fn expand(
 {
     let mut expander = Expander::new(alloc);
     expander.expand(alloc, grammar, tree, cover)
+}
+
+/// The text of `expand` with its temporaries apart, or None exactly where `expand` answers `TooLong`.
+pub fn pieces(
+    alloc: Global,
+    grammar: &Grammar,
+    tree: &Tree,
+    cover: &Cover,
+) -> Result<Option<List<Piece>>, NoMemory>
+    requires tree { IsTree tree.now }
+    requires covered { IsCovered grammar.now tree.now cover.now.rules }
+    ensures some { IfOk result (λ answer. (ps : List Piece) → answer ≡ Some ps → IsEmitted grammar.now tree.now cover.now.rules (pieces_text ps)) }
+    ensures numbered { IfOk result (λ answer. (ps : List Piece) → answer ≡ Some ps → AreNumbered (pieces_text ps)) }
+    ensures none { IfOk result (λ answer. answer ≡ None → IsTooLong grammar.now tree.now cover.now.rules) }
+{
+    let mut expander = Expander::new(alloc);
+    expander.pieces(alloc, grammar, tree, cover)
 }

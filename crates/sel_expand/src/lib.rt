@@ -3,10 +3,12 @@
 
 mod book;
 mod booking;
+mod cutting;
 mod expansion;
 mod places;
 mod printing;
 mod sizes;
 mod templates;
 
-pub use expansion::{Expander, Expansion, LONGEST_TEXT, expand};
+pub use cutting::Piece;
+pub use expansion::{Expander, Expansion, LONGEST_TEXT, expand, pieces};
