@@ -21,6 +21,7 @@ pub fn rules_of(alloc: Global, line: &str) -> Result<Vec<u16>, Stop> {
 }
 
 /// The cost of the derivation of the row's first tree that has the list of the row's words, or `refused`.
+#[tactic(auto, using(crate::proofs::Trees::tree_at))]
 pub fn check(alloc: Global, row: &Row<'_>) -> Result<String, Stop> {
     let accepted = accept(alloc, row)?;
     let forest = forest_of(alloc, &accepted.grammar, row)?;

@@ -9,7 +9,7 @@ use crate::covers::{are_same, by_costs, by_labels};
 use crate::making::{Material, made_trees};
 use crate::stop::Stop;
 use sel_auto::PrivateAutomaton;
-use sel_base::{NoMemory, Steps};
+use sel_base::Steps;
 use sel_forest::Forest;
 use sel_sheet::Row;
 use std::alloc::Global;

@@ -57,6 +57,7 @@ fn put_text(
 }
 
 // The lists' derivations of the trees, with a line `---` between two.
+#[tactic(auto, using(crate::proofs::Trees::tree_at))]
 fn put_texts(
     alloc: Global,
     grammar: &Grammar,
