@@ -9,16 +9,16 @@ use Rattle.atomic_table.specs.Table.{State, Me, keeps, Allows}
 use Rattle.sel_law.specs.declared.Setting.{Setting}
 use Rattle.sel_law.specs.declared.Ask.{Ask}
 use Rattle.sel_law.specs.declared.View.{View}
-use Rattle.sel_law.specs.Words.{IsMadeOf, key_home, weigh, In, read, used, walk, intern_at, row_at, key_of, number_of, published, content, IsKey}
+use Rattle.sel_law.specs.Words.{IsMadeOf, key_home, content_home, content_at, weigh, In, read, used, walk, intern_at, row_at, key_of, number_of, published, content, IsKey}
 use Rattle.sel_law.specs.Law.{NoGap, IsTrueOf, IsInUse, Transitions, Lawful}
-use Rattle.sel_law.specs.Kinds.{seen, looked, stood_as, WalkedStates, HeldKey, OtherKey, WalkedRow, Tells, NotAll, Below, Learns, OneContent, Stays, Marks}
-use Rattle.sel_law.proofs.Base.{set_same}
+use Rattle.sel_law.specs.Kinds.{seen, looked, stood_as, WalkedStates, HeldKey, OtherKey, WalkedRow, Tells, TellsStates, HeldNumber, HeldWhole, NotAll, Below, Learns, OneContent, Stays, Marks}
+use Rattle.sel_law.proofs.Base.{set_same, read_at}
 use Rattle.sel_law.proofs.Draw.{in_use, Holds}
-use Rattle.sel_law.proofs.Look.{seen_lawful}
+use Rattle.sel_law.proofs.Look.{seen_lawful, held_published}
 use prog.Atomic.{either}
 use Rattle.sel_law.proofs.Place.{lawful_one}
 use Rattle.sel_law.proofs.Publish.{stood_found}
-use Rattle.sel_law.proofs.Row.{held_kids, held_ask, key_injective, looked_lawful, looked_learns, looked_one, looked_stays, looked_marks}
+use Rattle.sel_law.proofs.Row.{held_whole, held_kids, held_ask, key_injective, looked_lawful, looked_learns, looked_one, looked_stays, looked_marks}
 
 no_key : (x : ℕ) → 0 ≡ x → 1 ≤ x / 4294967296 → ⊥
 no_key x e h = omega arith
@@ -60,6 +60,30 @@ module _ (z : Setting) (ws : List ℕ) (views : List View) (l : Lawful z ws view
             ap (λ k. number_of (slice_index ws (row_at z k))) (sym one) ∙ k.1.3)),
       )
 
+  pub state_tells : (place : ℕ) → TellsStates v place (slice_index ws place)
+  state_tells place c n q number whole spot walked free =
+      let p = held_published z ws v mine.setting mine.true_now l.l1 n number in
+      let same : content z ws n ≡ c = held_whole z ws v mine.setting mine.true_now n c whole in
+      let pl = subst (λ e. (d : ℕ) × (d < 2 * z.states) × (p.0 ≡ walk (2 * z.states) (content_home z e) d) × NoGap ws 1 (2 * z.states) (content_home z e) d) same (l.l2.each p.0 n p.1 p.2).place in
+      let walk_here = subst (λ (y : Setting). WalkedStates record v { setting = y } c q) mine.setting walked in
+      let h = content_home z c in
+      let d = walk_here.0 in
+      dite (dec_lt pl.0 d)
+      (λ before.
+      let o = walk_here.3 pl.0 before in
+      let t = mine.true_now.places (intern_at (walk (2 * z.states) h pl.0), o.0 + 1) o.3 in
+      let word : n + 1 ≡ o.0 + 1 = sym p.2 ∙ (ap (λ k. slice_index ws (intern_at k)) pl.2 ∙ t.3) in
+      let one : o.0 ≡ n = omega arith in
+      let e = mine.true_now.contents (o.0, o.1, o.2) o.4 in
+      o.5 (sym e.2 ∙ (ap (λ k. slice_index ws (content_at z k o.1)) one ∙ ((let k : content_at z n o.1 ≡ content_at z n 0 + o.1 = omega arith in ap (slice_index ws) k) ∙ (sym (read_at ws (content_at z n 0) z.width o.1 e.1) ∙ ap (λ k. slice_index k o.1) same)))))
+      (λ no. dite (dec_lt d pl.0)
+      (λ after. pl.3 d after (ap (slice_index ws) (sym (spot ∙ ap intern_at walk_here.2)) ∙ free))
+      (λ neither.
+      let even : pl.0 ≡ d = omega arith in
+      let there : q ≡ p.0 = walk_here.2 ∙ (ap (walk (2 * z.states) h) (sym even) ∙ sym pl.2) in
+      let full : slice_index ws place ≡ n + 1 = ap (slice_index ws) (spot ∙ ap intern_at there) ∙ p.2 in
+      omega arith))
+
   all_used : (b n : ℕ) → ((i : ℕ) → i < n → slice_index ws (b + i) ≢ 0) → weigh used (read ws b n) ≡ n
   all_used b zero h = refl
   all_used b (suc n) h =
@@ -96,13 +120,13 @@ module _ (z : Setting) (ws : List ℕ) (views : List View) (l : Lawful z ws view
 module _ (z : Setting) where
   -- kind 3, and kind 1 where the word has another key or none
   pub looks : (slots id : ℕ) (m : Me (Unit {0}) View) (asks : List Ask) (i : ℕ) → 1 ≤ i → i < row_at z z.rows → 1 ≤ m.0.seats
-      → Allows (Holds z) slots id m i (λ n. n) (λ found w. (w.0 ≡ seen m.0 asks i found) × (w.1 ≡ m.1) × NotAll m.0 i found × Below m.0 i found)
+      → Allows (Holds z) slots id m i (λ n. n) (λ found w. (w.0 ≡ seen m.0 asks i found) × (w.1 ≡ m.1) × NotAll m.0 i found × Below m.0 i found × TellsStates m.0 i found)
   looks slots id m asks i lo hi seat s l homes at fits = (
     seen m.0 asks i (slice_index s.words i),
     keeps,
     tt,
     subst (λ ws. Lawful z ws (set s.views id (seen m.0 asks i (slice_index s.words i)))) (sym (set_same s.words i (slice_index s.words i) refl)) (seen_lawful z s.words s.views l id m.0 at seat asks i lo hi),
-    (refl, refl, not_all z s.words s.views l id m.0 at seat i, found_below z s.words s.views l id m.0 at seat i lo),
+    (refl, refl, not_all z s.words s.views l id m.0 at seat i, found_below z s.words s.views l id m.0 at seat i lo, state_tells z s.words s.views l id m.0 at seat i),
   )
 
   -- kind 1

@@ -183,6 +183,10 @@ pub record Marks (v : View) (x found : ℕ) (w : View) : Type 0 where
 abbrev pub NotAll : View → ℕ → ℕ → Type 0
 NotAll v place found = found ≢ 0 → 1 ≤ v.setting.states → ((p : ℕ) → p < 2 * v.setting.states → (intern_at p ≡ place) ⊎ ((w : ℕ) × In (intern_at p, w) v.places)) → ⊥
 
+-- what a look at an intern word tells of a content that is held whole: no 0 stands on its walk before its number
+abbrev pub TellsStates : View → ℕ → ℕ → Type 0
+TellsStates v place found = (c : List ℕ) (n q : ℕ) → HeldNumber v n → HeldWhole v n c → place ≡ intern_at q → WalkedStates v c q → found ≢ 0
+
 -- a number that an intern word holds is below S
 abbrev pub Below : View → ℕ → ℕ → Type 0
 Below v place found = place ≤ 2 * v.setting.states → found ≤ v.setting.states

@@ -5,7 +5,7 @@ ghost use Rattle.std.specs.Prelude.{◌≡◌, ◌≢◌, ℕ, ◌+◌, ◌-◌,
 ghost use Rattle.sel_law.specs.Words.{word_count, intern_at, row_at, content_at, In, IsMadeOf, IsKey, word_of};
 ghost use Rattle.std.specs.Slots.{slots_items, slots_len, IsFull};
 ghost use Rattle.sel_law.specs.Law.{Lawful, spent, Small, Closes};
-ghost use Rattle.sel_law.specs.Kinds.{first_view, seen, drew, drafted, read_entry, stood_as, left_view, new_view, both_views, HeldNumber, HeldWhole, HeldKey, WalkedStates, WalkedRow, looked, placed_as, Tells, NotAll, Below, Learns, OneContent, Stays, Marks};
+ghost use Rattle.sel_law.specs.Kinds.{first_view, seen, drew, drafted, read_entry, stood_as, left_view, new_view, both_views, HeldNumber, HeldWhole, HeldKey, WalkedStates, WalkedRow, looked, placed_as, Tells, TellsStates, NotAll, Below, Learns, OneContent, Stays, Marks};
 ghost use Rattle.sel_law.specs.declared.Ask.{Ask};
 
 use atomic_table::{Closed, Join, Play, Seat, Split, Table, TableRule};
@@ -102,7 +102,7 @@ pub struct Looks<J> {
 }
 
 impl<J: Doing> Play<(), View> for Looks<J> {
-    ghost then = { λ st m found w. (w.0 ≡ seen m.0 J.asks st.word found) × (w.1 ≡ m.1) × NotAll m.0 st.word found × Below m.0 st.word found };
+    ghost then = { λ st m found w. (w.0 ≡ seen m.0 J.asks st.word found) × (w.1 ≡ m.1) × NotAll m.0 st.word found × Below m.0 st.word found × TellsStates m.0 st.word found };
 }
 
 pub struct Reads<J> {
@@ -273,7 +273,7 @@ impl SharedWords {
         requires of { seat.old.table_id ≡ self.now.table.shared.table_id }
         requires word { (1 ≤ word) × (word < row_at self.now.table.shared.key 0) }
         requires seated { 1 ≤ seat.old.me.0.seats }
-        ensures { (seat.new.table_id ≡ seat.old.table_id) × (seat.new.me ≡ (seen seat.old.me.0 J.asks word result, seat.old.me.1)) × NotAll seat.old.me.0 word result × Below seat.old.me.0 word result }
+        ensures { (seat.new.table_id ≡ seat.old.table_id) × (seat.new.me ≡ (seen seat.old.me.0 J.asks word result, seat.old.me.1)) × NotAll seat.old.me.0 word result × Below seat.old.me.0 word result × TellsStates seat.old.me.0 word result }
     {
         self.table.shared.load::<Looks<J>>(seat, word)
     }

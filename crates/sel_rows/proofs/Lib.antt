@@ -14,3 +14,4 @@ pub mod Numbering
 pub mod EntryReads
 pub mod Joins
 pub mod Closings
+pub mod PlainCauses

@@ -56,8 +56,8 @@ means_keep asks v w g p q e (Numbered n) i h = holds_stays asks v w g n i h
 means_keep asks v w g p q e (Plain n) i h = ap (λ k. slice_get k n) e ∙ h
 
 pub missed_before : (asks : List Ask) (u v w : View) → Grown asks u v → (c : List ℕ) → IsMissed v c w → IsMissed u c w
-missed_before asks u v w g c (inl e) = inl (ap (λ (s : Setting). s.states) (sym g.setting) ∙ e)
-missed_before asks u v w g c (inr m) = inr (m.0, m.1, m.2, m.3, (let s = g.steps in let t = m.4 in omega arith), m.5)
+missed_before asks u v w g c (none, inl e) = (none, inl (ap (λ (s : Setting). s.states) (sym g.setting) ∙ e))
+missed_before asks u v w g c (none, inr m) = (none, inr (m.0, m.1, m.2, m.3, (let s = g.steps in let t = m.4 in omega arith), m.5))
 
 pub left_before : (asks : List Ask) (u v w : View) → Grown asks u v → (s t : Option ℕ) → t ≡ s → (z y : Setting) → y ≡ z → (k : Ask) (used_up : Bool) → IsLeftPlain v t y k used_up w → IsLeftPlain u s z k used_up w
 left_before asks u v w g s t e z y f k used_up (inl h) = inl (h.0, subst (λ (x : Setting). Follows x.normal.value (node_key k) h.0) f h.1, h.2)

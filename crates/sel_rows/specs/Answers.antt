@@ -44,4 +44,4 @@ PlainCause v spare z k used_up w result = IfOk result (λ l. IsPlain l → IsLef
 
 -- A number that was answered is known for the key, or the row is full.
 abbrev pub IsTabledAs : {E : Type 0} → View → Ask → Bool → Result Label E → Type 0
-IsTabledAs w k row_full result = IfOk result (λ l. (n : ℕ) → l ≡ Numbered n → In (k, n) w.known ⊎ (row_full ≡ true))
+IsTabledAs w k row_full result = IfOk result (λ l. (n : ℕ) → l ≡ Numbered n → HoldsKey w k n ⊎ (row_full ≡ true))

@@ -18,11 +18,15 @@ pub record HoldsContent (v : View) (c : List ℕ) (n : ℕ) : Type 0 where
   pub whole : HeldWhole v n c
   pub content_is : held_content v n ≡ c
 
+-- the content isn't held whole under any published number
+abbrev pub NoneHolds : View → List ℕ → Type 0
+NoneHolds v c = (n : ℕ) → n < v.setting.states → HeldNumber v n → HeldWhole v n c → ⊥
+
 -- What a walk from the view u to the view v found: a number whose content is the one that was looked for; or a place whose word was free at the last step, with all words before it held with other contents.
 abbrev pub FoundState : View → View → List ℕ → Found → Type 0
 FoundState u v c (Number n) = HoldsContent v c n
-FoundState u v c (Absent p) = (p < 2 * v.setting.states) × WalkedStates v c p × (u.steps < v.steps) × (v.last ≡ (v.steps, intern_at p, 0))
+FoundState u v c (Absent p) = (p < 2 * v.setting.states) × WalkedStates v c p × (u.steps < v.steps) × (v.last ≡ (v.steps, intern_at p, 0)) × NoneHolds v c
 
--- In the steps between the two views the walk over the intern row found no equal state: the last word that was read is that of a free place, or there is no state at all.
+-- In the steps between the two views the walk over the intern row found no equal state, and none is held: the last word that was read is that of a free place, or there is no state at all.
 abbrev pub IsMissed : View → List ℕ → View → Type 0
-IsMissed v c w = (v.setting.states ≡ 0) ⊎ ((p t : ℕ) × (p < 2 * w.setting.states) × WalkedStates w c p × (v.steps < t) × (w.last ≡ (t, intern_at p, 0)))
+IsMissed v c w = NoneHolds w c × ((v.setting.states ≡ 0) ⊎ ((p t : ℕ) × (p < 2 * w.setting.states) × WalkedStates w c p × (v.steps < t) × (w.last ≡ (t, intern_at p, 0))))

@@ -14,3 +14,5 @@ pub mod Tables
 pub mod Snapshots
 pub mod Numbered
 pub mod Closing
+pub mod Counts
+pub mod PlainLabels

@@ -1,5 +1,5 @@
 -- A table by its words, and the parts of one table.
-use Rattle.std.specs.Prelude.{◌≡◌, ℕ, ◌+◌, ◌-◌, ◌^◌, min, List, None}
+use Rattle.std.specs.Prelude.{◌≡◌, ◌-◌, List, None}
 use Rattle.std.specs.Prelude.{◌||◌}
 use Rattle.atomic_table.specs.Seated.{TableId}
 use Rattle.sel_law.specs.declared.Setting.{Setting}
@@ -9,6 +9,7 @@ use Rattle.sel_rows.specs.declared.rows.Rows.{Rows}
 use Rattle.sel_rows.specs.declared.part.PassPart.{PassPart}
 use Rattle.sel_rows.specs.declared.pass.Pass.{Pass}
 use Rattle.sel_rows.specs.Parts.{PartOf, AllOf, IsNew}
+use Rattle.sel_rows.specs.Counts.{counted}
 use Rattle.sel_rows.specs.Told.{pass_view}
 
 -- the table's name, and what it was made for
@@ -51,10 +52,6 @@ pub record AreSplit (p old new : PassPart) : Type 0 where
   pub used_up : (old.used_up ≡ p.used_up) × (new.used_up ≡ p.used_up)
   pub row_full : (old.row_full ≡ p.row_full) × (new.row_full ≡ p.row_full)
   pub evaluated : (old.evaluated ≡ p.evaluated) × (new.evaluated ≡ 0)
-
--- a sum that stops at the greatest number of 64 bits
-abbrev pub counted : ℕ → ℕ → ℕ
-counted m n = min (m + n) (2 ^ 64 - 1)
 
 -- What both have seen is kept, with the first one's number, the marks of either and the sum of the counts.
 pub record IsJoined (p q both : PassPart) : Type 0 where

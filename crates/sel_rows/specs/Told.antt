@@ -11,8 +11,8 @@ use Rattle.sel_rows.specs.Meanings.{told_by}
 abbrev pub pass_view : Pass → View
 pass_view p = p.hand.seat.me.0
 
-abbrev pub told_of : Pass → Told
-told_of p = told_by p.normal.now (pass_view p) p.plain.items p.used_up p.row_full
+abbrev pub told_of_pass : Pass → Told
+told_of_pass p = told_by p.normal.now (pass_view p) p.plain.items p.used_up p.row_full
 
 -- Where a pass stands: its table, what the table was made for, and the pass's seats.
 pub record Standing : Type 0 where

@@ -5,7 +5,8 @@ ghost use Rattle.sel_items.specs.declared.label.Label.{Label};
 ghost use Rattle.sel_items.specs.Follows.{key_of, Follows};
 ghost use Rattle.sel_items.specs.Labels.{KidsAre, AreKidSets, IsClassOver};
 ghost use Rattle.sel_law.specs.Words.{In, IsMadeOf};
-ghost use Rattle.sel_rows.specs.Grown.{Grown, KeepsOwn};
+ghost use Rattle.sel_rows.specs.Grown.{Grown, KeepsOwn, KeepsHeld};
+ghost use Rattle.sel_rows.specs.Counts.{CountsSteps};
 ghost use Rattle.sel_rows.specs.Meanings.{Means};
 ghost use Rattle.sel_rows.specs.FoundState.{HoldsContent, IsMissed};
 
@@ -36,6 +37,7 @@ impl<'r> Pass<'r> {
         ensures kept { (self.new.hand.rows ≡ self.old.hand.rows) × (self.new.normal ≡ self.old.normal) }
         ensures lists { (self.new.plain.items ≡ self.old.plain.items) × (self.new.row_full ≡ self.old.row_full) }
         ensures follows { IfOk result (λ i. (is : List Items) → KidsAre (Means self.old.hand.seat.me.0 self.old.plain.items) kids.0 kids.1 is → Follows self.old.normal.now (key_of operator class is) i) }
+        ensures counted { CountsSteps self.old.evaluated self.new.evaluated steps.old steps.new }
         ensures steps { steps.old ≤ steps.new }
     {
         let (first_read, second_read) = self.hand.read_kids::<J>(alloc, kids)?;
@@ -48,7 +50,7 @@ impl<'r> Pass<'r> {
     /// Keeps the item set of a plain label until the next tree begins.
     pub fn add_plain(&mut self, items: Items) -> Result<Label, NoMemory>
         requires room { length self.old.plain.items < 2 ^ 32 }
-        ensures kept { (self.new.hand ≡ self.old.hand) × (self.new.normal ≡ self.old.normal) × (self.new.row_full ≡ self.old.row_full) × (self.new.used_up ≡ self.old.used_up) }
+        ensures kept { (self.new.hand ≡ self.old.hand) × (self.new.normal ≡ self.old.normal) × (self.new.row_full ≡ self.old.row_full) × (self.new.used_up ≡ self.old.used_up) × (self.new.evaluated ≡ self.old.evaluated) × (self.new.spare ≡ self.old.spare) }
         ensures ok { IfOk result (λ l. (l ≡ Label.Plain (length self.old.plain.items)) × (self.new.plain.items ≡ self.old.plain.items ++ items ∷ [])) }
         ensures err { OnErr result (self.new.plain.items ≡ self.old.plain.items) }
     {
@@ -62,8 +64,9 @@ impl<'r> Pass<'r> {
         ensures grown { Grown J.asks self.old.hand.seat.me.0 self.new.hand.seat.me.0 }
         ensures kept { (self.new.hand.rows ≡ self.old.hand.rows) × (self.new.normal ≡ self.old.normal) }
         ensures lists { (self.new.plain.items ≡ self.old.plain.items) × (self.new.row_full ≡ self.old.row_full) }
-        ensures last { self.new.hand.seat.me.0.last ≡ self.old.hand.seat.me.0.last }
-        ensures number { MatchOption result ((self.new.used_up ≡ true) × (self.old.spare ≡ None)) (λ n. (self.new.spare ≡ Some n)) }
+        ensures held { KeepsHeld self.old.hand.seat.me.0 self.new.hand.seat.me.0 }
+        ensures evaluated { self.new.evaluated ≡ self.old.evaluated }
+        ensures number { MatchOption result ((self.new.used_up ≡ true) × (self.old.spare ≡ None) × (self.new.spare ≡ None)) (λ n. (self.new.spare ≡ Some n)) }
     {
         if self.spare.is_some() {
             return self.spare;
@@ -87,7 +90,8 @@ impl<'r> Pass<'r> {
         ensures grown { Grown J.asks self.old.hand.seat.me.0 self.new.hand.seat.me.0 }
         ensures kept { (self.new.hand.rows ≡ self.old.hand.rows) × (self.new.normal ≡ self.old.normal) }
         ensures lists { (self.new.plain.items ≡ self.old.plain.items) × (self.new.row_full ≡ self.old.row_full) }
-        ensures number { MatchOption result ((self.new.used_up ≡ true) × (self.old.spare ≡ None) × IsMissed self.old.hand.seat.me.0 words.now self.new.hand.seat.me.0) (λ n. HoldsContent self.new.hand.seat.me.0 words.now n × In J.ask self.new.hand.seat.me.0.asked) }
+        ensures evaluated { self.new.evaluated ≡ self.old.evaluated }
+        ensures number { MatchOption result ((self.new.used_up ≡ true) × (self.old.spare ≡ None) × IsMissed self.old.hand.seat.me.0 words.now self.new.hand.seat.me.0 × (self.new.spare ≡ None)) (λ n. HoldsContent self.new.hand.seat.me.0 words.now n × In J.ask self.new.hand.seat.me.0.asked) }
     {
         if self.hand.rows.states == 0 {
             let _number = self.take_number::<J>();

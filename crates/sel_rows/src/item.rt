@@ -36,7 +36,7 @@ impl<'r> Pass<'r> {
         ensures grown { Grown [] self.old.hand.seat.me.0 self.new.hand.seat.me.0 }
         ensures same { (self.new.hand.seat.me.0.asked ≡ self.old.hand.seat.me.0.asked) × (self.new.hand.seat.me.0.known ≡ self.old.hand.seat.me.0.known) }
         ensures back { (i : Items) → IsHeld self.new.hand.seat.me.0 i → IsHeld self.old.hand.seat.me.0 i }
-        ensures kept { (self.new.hand.rows ≡ self.old.hand.rows) × (self.new.normal ≡ self.old.normal) × (self.new.plain.items ≡ self.old.plain.items) × (self.new.row_full ≡ self.old.row_full) × (self.new.used_up ≡ self.old.used_up) }
+        ensures kept { (self.new.hand.rows ≡ self.old.hand.rows) × (self.new.normal ≡ self.old.normal) × (self.new.plain.items ≡ self.old.plain.items) × (self.new.row_full ≡ self.old.row_full) × (self.new.used_up ≡ self.old.used_up) × (self.new.spare ≡ self.old.spare) × (self.new.evaluated ≡ self.old.evaluated) }
     {
         let word = self.hand.entry::<Brand>(number as u64, nonterminal as u64);
         unpack(word)

@@ -1,5 +1,5 @@
 //! How a pass labels a node.
-ghost use Rattle.std.specs.Prelude.{◌≡◌, ◌<◌, ◌≤◌, ◌^◌, ◌++◌, ◌∷◌, ◌⊎◌, [], ℕ, List, Some, None, Ok, length, true, false, IfOk};
+ghost use Rattle.std.specs.Prelude.{◌≡◌, ◌<◌, ◌≤◌, ◌^◌, ◌++◌, ◌∷◌, ◌⊎◌, [], ℕ, List, Some, None, Ok, length, true, false, IfOk, OnErr};
 ghost use Rattle.sel_items.specs.declared.items.Items.{Items};
 ghost use Rattle.sel_items.specs.declared.label.Label.{Label};
 ghost use Rattle.sel_items.specs.Follows.{key_of};
@@ -12,6 +12,7 @@ ghost use Rattle.sel_rows.specs.Held.{held_ask};
 ghost use Rattle.sel_rows.specs.Keys.{key_number};
 ghost use Rattle.sel_rows.specs.Meanings.{Means, told_by};
 ghost use Rattle.sel_rows.specs.SeenKey.{IsSeen, FindsOwn};
+ghost use Rattle.sel_rows.specs.Counts.{CountsSteps};
 ghost use Rattle.sel_rows.specs.Answers.{GrownFor, IsPlainAfter, IsPublished, AnswersKnown, PlainCause, IsTabledAs};
 
 use crate::found::{Placed, Seen};
@@ -31,7 +32,7 @@ impl<'r> Pass<'r> {
     fn find_key<J: Doing>(&mut self, key: u64) -> Seen
         requires key { (J.key ≡ key) × IsKey key × HeldKey self.old.hand.seat.me.0 key J.ask × In J.ask J.asks }
         ensures grown { Grown J.asks self.old.hand.seat.me.0 self.new.hand.seat.me.0 }
-        ensures kept { (self.new.hand.rows ≡ self.old.hand.rows) × (self.new.normal ≡ self.old.normal) × (self.new.spare ≡ self.old.spare) }
+        ensures kept { (self.new.hand.rows ≡ self.old.hand.rows) × (self.new.normal ≡ self.old.normal) × (self.new.spare ≡ self.old.spare) × (self.new.evaluated ≡ self.old.evaluated) }
         ensures plain { self.new.plain.items ≡ self.old.plain.items }
         ensures row_full { self.old.row_full ≡ true → self.new.row_full ≡ true }
         ensures seen { IsSeen self.new.hand.seat.me.0 key J.ask self.new.row_full result }
@@ -59,7 +60,7 @@ impl<'r> Pass<'r> {
         requires missed { (n : ℕ) → seen ≡ Seen.Number n → ⊥ }
         requires number { (number < self.old.hand.rows.now.states) × HeldNumber self.old.hand.seat.me.0 number × ((c : List ℕ) × HeldWhole self.old.hand.seat.me.0 number c × IsMadeOf self.old.hand.rows.now.table.shared.key J.ask c) }
         ensures grown { Grown J.asks self.old.hand.seat.me.0 self.new.hand.seat.me.0 }
-        ensures kept { (self.new.hand.rows ≡ self.old.hand.rows) × (self.new.normal ≡ self.old.normal) }
+        ensures kept { (self.new.hand.rows ≡ self.old.hand.rows) × (self.new.normal ≡ self.old.normal) × (self.new.evaluated ≡ self.old.evaluated) }
         ensures plain { self.new.plain.items ≡ self.old.plain.items }
         ensures row_full { self.old.row_full ≡ true → self.new.row_full ≡ true }
         ensures number { IsPublished self.new.hand.seat.me.0 J.ask self.new.row_full number result }
@@ -103,6 +104,8 @@ impl<'r> Pass<'r> {
         ensures plain { IsPlainAfter self.old.plain.items self.new.plain.items result }
         ensures labelled { IfOk result (λ l. (is : List Items) → KidsAre (Means self.old.hand.seat.me.0 self.old.plain.items) kids.0 kids.1 is
             → IsLabelled (told_by self.old.normal.now self.new.hand.seat.me.0 self.new.plain.items self.new.used_up self.new.row_full) operator class kids.0 kids.1 is l) }
+        ensures counted { CountsSteps self.old.evaluated self.new.evaluated steps.old steps.new }
+        ensures refused { OnErr result (self.new.spare ≡ self.old.spare) }
         ensures steps { steps.old ≤ steps.new }
     {
         let items = self.evaluate_kids::<J, L>(alloc, operator, class, kids, steps)?;
@@ -135,6 +138,8 @@ impl<'r> Pass<'r> {
             → IsLabelled (told_by self.old.normal.now self.new.hand.seat.me.0 self.new.plain.items self.new.used_up self.new.row_full) operator class kids.0 kids.1 is l) }
         ensures published { IsTabledAs self.new.hand.seat.me.0 J.ask self.new.row_full result }
         ensures cause { PlainCause self.old.hand.seat.me.0 self.old.spare self.old.hand.rows.now.table.shared.key J.ask self.new.used_up self.new.hand.seat.me.0 result }
+        ensures counted { CountsSteps self.old.evaluated self.new.evaluated steps.old steps.new }
+        ensures refused { OnErr result (self.new.spare ≡ self.old.spare) }
         ensures steps { steps.old ≤ steps.new }
     {
         let items = self.evaluate_kids::<J, L>(alloc, operator, class, kids, steps)?;
@@ -177,6 +182,8 @@ impl<'r> Pass<'r> {
         ensures hit { AnswersKnown self.old.hand.seat.me.0 J.ask self.old.row_full self.new.row_full steps.old steps.new result }
         ensures published { IsTabledAs self.new.hand.seat.me.0 J.ask self.new.row_full result }
         ensures cause { PlainCause self.old.hand.seat.me.0 self.old.spare self.old.hand.rows.now.table.shared.key J.ask self.new.used_up self.new.hand.seat.me.0 result }
+        ensures counted { CountsSteps self.old.evaluated self.new.evaluated steps.old steps.new }
+        ensures refused { OnErr result (self.new.spare ≡ self.old.spare) }
         ensures steps { steps.old ≤ steps.new }
     {
         let seen = self.find_key::<J>(key);
@@ -187,7 +194,7 @@ impl<'r> Pass<'r> {
     }
 
     /// The label of a node.
-    pub fn answer<L: Ledger>(
+    pub(crate) fn answer<L: Ledger>(
         &mut self,
         alloc: Global,
         operator: u8,
@@ -207,6 +214,8 @@ impl<'r> Pass<'r> {
         ensures hit { (x : ℕ) → key_number operator class kids.0 kids.1 ≡ Some x → AnswersKnown self.old.hand.seat.me.0 (held_ask self.old.hand.seat.me.0 x) self.old.row_full self.new.row_full steps.old steps.new result }
         ensures published { (x : ℕ) → key_number operator class kids.0 kids.1 ≡ Some x → IsTabledAs self.new.hand.seat.me.0 (held_ask self.old.hand.seat.me.0 x) self.new.row_full result }
         ensures cause { (x : ℕ) → key_number operator class kids.0 kids.1 ≡ Some x → PlainCause self.old.hand.seat.me.0 self.old.spare self.old.hand.rows.now.table.shared.key (held_ask self.old.hand.seat.me.0 x) self.new.used_up self.new.hand.seat.me.0 result }
+        ensures counted { CountsSteps self.old.evaluated self.new.evaluated steps.old steps.new }
+        ensures refused { OnErr result (self.new.spare ≡ self.old.spare) }
         ensures steps { steps.old ≤ steps.new }
     {
         match key_number(operator, class, kids) {

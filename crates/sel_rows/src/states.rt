@@ -2,7 +2,7 @@
 ghost use Rattle.std.specs.Prelude.{◌≡◌, ◌≢◌, ℕ, ◌+◌, ◌*◌, ◌%◌, ◌<◌, ◌≤◌, ◌^◌, List, [], ◌∷◌, length, slice_index, true, false, IfOk};
 ghost use Rattle.sel_law.specs.declared.Ask.{Ask};
 ghost use Rattle.sel_law.specs.Words.{content_home, content_at, intern_at, In, items_of};
-ghost use Rattle.sel_law.specs.Kinds.{HeldNumber, HeldWhole, OneContent, NotAll, Below, seen};
+ghost use Rattle.sel_law.specs.Kinds.{HeldNumber, HeldWhole, OneContent, NotAll, Below, TellsStates, seen};
 ghost use Rattle.sel_rows.specs.Grown.{Grown, KeepsOwn};
 ghost use Rattle.sel_rows.specs.Held.{held_content, IsWhole, IsRead};
 ghost use Rattle.sel_rows.specs.FoundState.{Unlike, FoundState};
@@ -77,7 +77,7 @@ impl<'r> Hand<'r> {
     fn look<J: Doing>(&mut self, place: u64) -> u64
         requires inside { place < 2 * self.old.rows.now.states }
         ensures view { self.new.seat.me.0 ≡ seen self.old.seat.me.0 J.asks (intern_at place) result }
-        ensures told { NotAll self.old.seat.me.0 (intern_at place) result × Below self.old.seat.me.0 (intern_at place) result }
+        ensures told { NotAll self.old.seat.me.0 (intern_at place) result × Below self.old.seat.me.0 (intern_at place) result × TellsStates self.old.seat.me.0 (intern_at place) result }
         ensures same { self.new.rows ≡ self.old.rows }
     {
         let word = 1 + place;

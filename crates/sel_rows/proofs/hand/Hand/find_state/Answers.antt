@@ -5,7 +5,7 @@ use Rattle.sel_law.specs.Words.{In, intern_at, walk, content_home}
 use Rattle.sel_law.specs.Kinds.{HeldNumber}
 use Rattle.sel_rows.proofs.Places.{walk_next, walk_around}
 use Rattle.sel_rows.proofs.Growth.{grown_then, grown_seen, number_grown, other_state_grown}
-use Rattle.sel_rows.proofs.Interns.{own_then, own_seen, seen_there, seen_asks, walked_from, others_on, never_all}
+use Rattle.sel_rows.proofs.Interns.{none_holds, own_then, own_seen, seen_there, seen_asks, walked_from, others_on, never_all}
 use Rattle.sel_rows.proofs.hand.Hand.find_state.Goals as goal
 
 pub returns-then-found-eq0-clause-grown : goal.returns-then-found-eq0-clause-grown
@@ -88,6 +88,7 @@ returns-then-found-eq0-clause-found g c =
       (walked_from w items (2 * c.args.self.now.rows.now.states) c.args.home at c.loop-steps.steps st home lt i.place.0 (λ j l. other_state_grown asks v w m items (walk (2 * c.args.self.now.rows.now.states) c.args.home j) (i.others j l))).0,
       (let f = i.grown.steps in let g = ap (λ (x : View). x.steps) c.look-found.ensures.view in omega arith),
       ap (λ (x : View). x.last) c.look-found.ensures.view ∙ (ap (λ (x : View). (x.steps, intern_at at, found)) (sym c.look-found.ensures.view) ∙ (λ k. (w.steps, intern_at at, c.if-found-eq0.true k))),
+      none_holds v w asks at found items c.look-found.ensures.view c.if-found-eq0.true c.look-found.ensures.told.2 (walked_from v items (2 * c.args.self.now.rows.now.states) c.args.home at c.loop-steps.steps (st ∙ ap (λ (s : Setting). 2 * s.states) m.setting) (home ∙ ap (λ (s : Setting). content_home s items) m.setting) lt i.place.0 i.others).0,
     )
 
 pub differs-requires-clause-held : goal.differs-requires-clause-held

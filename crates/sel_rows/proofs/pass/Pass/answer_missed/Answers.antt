@@ -391,5 +391,5 @@ label_is m n e = cc
 pub returns-in-Some-clause-published : goal.returns-in-Some-clause-published
 returns-in-Some-clause-published g c = λ n e.
     let w = c.publish_key-known.new.self in
-    subst (λ m. In (g.J.Doing.ask, m) w.hand.seat.me.0.known ⊎ (w.row_full ≡ true)) (label_is c.publish_key-known.result n e)
-    (⊎_elim (λ (h : HoldsKey w.hand.seat.me.0 g.J.Doing.ask c.publish_key-known.result). inl h.known) (λ (h : (c.publish_key-known.result ≡ c.in-Some.number) × (w.row_full ≡ true)). inr h.1) c.publish_key-known.ensures.number)
+    subst (λ m. HoldsKey w.hand.seat.me.0 g.J.Doing.ask m ⊎ (w.row_full ≡ true)) (label_is c.publish_key-known.result n e)
+    (⊎_elim (λ (h : HoldsKey w.hand.seat.me.0 g.J.Doing.ask c.publish_key-known.result). inl h) (λ (h : (c.publish_key-known.result ≡ c.in-Some.number) × (w.row_full ≡ true)). inr h.1) c.publish_key-known.ensures.number)

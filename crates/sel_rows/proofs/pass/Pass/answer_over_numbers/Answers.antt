@@ -6,10 +6,10 @@ use Rattle.sel_items.specs.Follows.{key_of}
 use Rattle.sel_items.specs.Labels.{KidsAre, AreKidSets, IsClassOver}
 use Rattle.sel_items.specs.Automata.{IsLabelled}
 use Rattle.sel_law.specs.declared.Setting.{Setting}
-use Rattle.sel_law.specs.Words.{In}
 use Rattle.sel_rows.specs.declared.found.Seen.TheVariants.{Number}
 use Rattle.sel_rows.specs.Meanings.{told_by, Means}
 use Rattle.sel_rows.specs.Answers.{IsPlainAfter}
+use Rattle.sel_rows.specs.FoundRow.{HoldsKey}
 use Rattle.sel_rows.proofs.Growth.{grown_then, key_grown}
 use Rattle.sel_rows.proofs.Labelled.{if_ok_of, labelled_key}
 use Rattle.sel_rows.proofs.Steps.{kids_keep, kids_one, means_keep, left_before}
@@ -206,4 +206,4 @@ label_is m n e = cc
 
 pub returns-in-Number-clause-published : goal.returns-in-Number-clause-published
 returns-in-Number-clause-published g c = λ n e.
-    subst (λ m. In (g.J.Doing.ask, m) c.find_key-seen.new.self.hand.seat.me.0.known ⊎ (c.find_key-seen.new.self.row_full ≡ true)) (label_is c.in-Number.number n e) (inl c.in-Number.ensures.seen.known)
+    subst (λ m. HoldsKey c.find_key-seen.new.self.hand.seat.me.0 g.J.Doing.ask m ⊎ (c.find_key-seen.new.self.row_full ≡ true)) (label_is c.in-Number.number n e) (inl c.in-Number.ensures.seen)

@@ -1,6 +1,11 @@
-use Rattle.std.proofs.Common.{◌≡◌, ◌*◌, ◌<◌, sym, ap, ◌∙◌, arith, subst, inr, Option, Some, None, MatchOption}
+use Rattle.std.proofs.Common.{◌≡◌, ℕ, ◌+◌, ◌*◌, ◌<◌, List, sym, ap, ◌∙◌, arith, subst, inl, inr, Option, Some, None, MatchOption}
+use Rattle.std.specs.Prelude.{slice_index}
 use Rattle.sel_law.specs.declared.Setting.{Setting}
-use Rattle.sel_law.specs.Words.{content_home}
+use Rattle.sel_law.specs.declared.View.{View}
+use Rattle.sel_law.specs.Words.{In, intern_at, content_home}
+use Rattle.sel_law.specs.Kinds.{HeldNumber}
+use Rattle.sel_rows.specs.FoundState.{NoneHolds}
+use Rattle.sel_rows.specs.Grown.{KeepsHeld}
 use Rattle.sel_rows.proofs.Growth.{grown_then, walked_states_grown}
 use Rattle.sel_rows.proofs.pass.Pass.intern.Goals as goal
 
@@ -40,10 +45,27 @@ of_none : {A : Type 0} (o : Option A) (P : Type 0) (Q : A → Type 0) → o ≡ 
 of_none None P Q e p = p
 of_none (Some x) P Q e p = absurd (cc)
 
+held_moved : (v w : View) → KeepsHeld v w → (c : List ℕ) → NoneHolds v c → NoneHolds w c
+held_moved v w k c none n lt number whole =
+    none n (subst (λ (s : Setting). n < s.states) k.setting lt) (number_moved number) (whole.0 ∙ ap (λ (s : Setting). s.width) k.setting, λ i h. subst (In (n, i, slice_index c i)) k.contents (whole.1 i (subst (λ (s : Setting). i < s.width) (sym k.setting) h)))
+  where
+    number_moved : HeldNumber w n → HeldNumber v n
+    number_moved (inl (p, l, h)) = inl (p, subst (λ (s : Setting). p < 2 * s.states) k.setting l, subst (In (intern_at p, n + 1)) k.places h)
+    number_moved (inr (a, h)) = inr (a, subst (In (a, n)) k.known h)
+
 pub returns-in_err-number-in-Absent-clause-number : goal.returns-in_err-number-in-Absent-clause-number
 returns-in_err-number-in-Absent-clause-number g c =
     let v = c.find_state.new.self.seat.me.0 in
     let w = c.take_number.new.self.hand.seat.me.0 in
     let found = c.in-Absent.ensures.found in
     let t = c.take_number.ensures in
-    of_none c.from_residual.result _ _ c.from_residual.ensures (c.in_err-number-in-Absent.ensures.number.0, c.in_err-number-in-Absent.ensures.number.1, inr (c.in-Absent.place, v.steps, subst (λ (s : Setting). c.in-Absent.place < 2 * s.states) (sym t.grown.setting) found.0, (walked_states_grown g.J.Doing.asks v w t.grown c.args.words.now c.in-Absent.place found.1).0, found.2, t.last ∙ found.3))
+    let e = c.in_err-number-in-Absent.ensures.number in
+    of_none c.from_residual.result _ _ c.from_residual.ensures (
+      e.0,
+      e.1,
+      (
+        held_moved v w t.held c.args.words.now found.4,
+        inr (c.in-Absent.place, v.steps, subst (λ (s : Setting). c.in-Absent.place < 2 * s.states) (sym t.grown.setting) found.0, (walked_states_grown g.J.Doing.asks v w t.grown c.args.words.now c.in-Absent.place found.1).0, found.2, t.held.last ∙ found.3),
+      ),
+      e.2,
+    )

@@ -1,0 +1,36 @@
+-- When a pass gives a plain label, and what it knows after a numbered one.
+use Rattle.std.specs.Prelude.{◌≡◌, ℕ, ◌⊎◌, Option, None, Ok, Result, true, false, List}
+use Rattle.sel_items.specs.declared.items.Items.{Items}
+use Rattle.sel_items.specs.declared.label.Label.{Label}
+use Rattle.sel_items.specs.declared.label.Label.TheVariants.{Numbered}
+use Rattle.sel_items.specs.Automata.{IsOwnKey}
+use Rattle.sel_items.specs.Follows.{NodeKey}
+use Rattle.sel_items.specs.Labels.{AreNumbered}
+use Rattle.sel_items.specs.Words.{FitsWords}
+use Rattle.sel_law.specs.Words.{items_of, ArePacked}
+use Rattle.sel_rows.specs.declared.pass.Pass.{Pass}
+use Rattle.sel_rows.specs.FoundState.{IsMissed}
+use Rattle.sel_rows.specs.Meanings.{Means, IsKnownAs}
+use Rattle.sel_rows.specs.Told.{pass_view, told_of_pass}
+
+-- The pass is used up, it had no spare number when the call began, and the walk of the intern row in the call found no state with the item set.
+pub record HasNoState (old new : Pass) (i : Items) : Type 0 where
+  pub used_up : new.used_up ≡ true
+  pub no_spare : old.spare ≡ None
+  pub content : List ℕ
+  pub packed : ArePacked content
+  pub says : items_of content ≡ i
+  pub missed : IsMissed (pass_view old) content (pass_view new)
+
+-- Why a label is plain: a kid's is, or its item set doesn't fit words, or it has no state and can have none.
+abbrev pub IsPlainFor : Pass → Pass → Option Label → Option Label → Label → Type 0
+IsPlainFor old new a b l = (AreNumbered a b → ⊥) ⊎ ((i : Items) × Means (pass_view new) new.plain.items l i × ((FitsWords i → ⊥) ⊎ HasNoState old new i))
+
+-- A key of numbered kids whose number is known, in a pass that isn't marked row full, is a hit: its number is the label, with no step of the counter and no memory.
+abbrev pub FindsKnownKey : {E : Type 0} → Pass → Pass → ℕ → ℕ → Option Label → Option Label → Result Label E → ℕ → ℕ → Type 0
+FindsKnownKey old new operator class a b result before after = (k : NodeKey) (n : ℕ) → IsOwnKey (told_of_pass old) operator class a b k → IsKnownAs (pass_view old) k n → old.row_full ≡ false
+    → (result ≡ Ok (Numbered n)) × (after ≡ before) × (new.evaluated ≡ old.evaluated)
+
+-- After a numbered label the key has that number in what is known, or the pass is marked row full.
+abbrev pub KnowsOwnKey : Pass → Pass → ℕ → ℕ → Option Label → Option Label → Label → Type 0
+KnowsOwnKey old new operator class a b l = (k : NodeKey) (n : ℕ) → IsOwnKey (told_of_pass old) operator class a b k → l ≡ Numbered n → IsKnownAs (pass_view new) k n ⊎ (new.row_full ≡ true)
