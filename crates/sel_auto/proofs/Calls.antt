@@ -1,16 +1,15 @@
 -- What a call that labels a node tells, whether it has memory or not.
-use Rattle.std.proofs.Common.{◌≡◌, ℕ, ◌+◌, ◌<◌, ◌≤◌, ◌⊎◌, inl, inr, Bool, true, false, Option, Some, List, [], ◌∷◌, ◌++◌, length, nat_lt, if◌then◌else◌, Result, Ok, Err, IfOk, OnErr, refl, sym, ap, subst, ◌∙◌, arith}
+use Rattle.std.proofs.Common.{◌≡◌, ℕ, ◌+◌, ◌<◌, ◌≤◌, ◌⊎◌, inl, inr, Option, List, length, Result, Ok, Err, IfOk, OnErr, refl, sym, ap, subst, ◌∙◌, arith}
 use Rattle.std.specs.Prelude.{MatchResult}
-use Rattle.std.proofs.lemmas.List.{length_push}
 use Rattle.sel_items.specs.declared.items.Items.{Items}
 use Rattle.sel_items.specs.declared.label.Label.{Label}
-use Rattle.sel_items.specs.declared.label.Label.TheVariants.{Numbered, Plain}
+use Rattle.sel_items.specs.declared.label.Label.TheVariants.{Numbered}
 use Rattle.sel_items.specs.Follows.{NodeKey, Follows}
-use Rattle.sel_items.specs.Labels.{IsPlain, AreNumbered, KidsAre}
+use Rattle.sel_items.specs.Labels.{AreNumbered, KidsAre}
 use Rattle.sel_items.specs.Automata.{KeepsMark, IsLabelOf, IsLabelled, Keeps, Grows, AddsOwn, IsOwnKey, IsReady, IsHit}
 use Rattle.sel_auto.specs.Sets.{IsAmong}
 use Rattle.sel_auto.specs.Tables.{Tables, Means, IsKnown, told_of, limits_of, one_more, with_evaluation, with_state}
-use Rattle.sel_auto.specs.TableChanges.{FollowsKids, IsKeptFor, HasNoNumber, IsChanged, IsRefused, IsCounted}
+use Rattle.sel_auto.specs.TableChanges.{FollowsKids, IsKeptFor, IsChanged, IsRefused, IsCounted}
 use Rattle.sel_auto.specs.Answers.{IsAnswer}
 use Rattle.sel_auto.proofs.Cases.{Way, way}
 use Rattle.sel_auto.proofs.OneKey.{kept_for}

@@ -4,9 +4,9 @@ use Rattle.sel_items.specs.declared.items.Items.{Items}
 use Rattle.sel_items.specs.declared.label.Label.{Label}
 use Rattle.sel_items.specs.declared.label.Label.TheVariants.{Numbered, Plain}
 use Rattle.sel_items.specs.Automata.{IsReady}
-use Rattle.sel_items.specs.Follows.{NodeKey, key_of}
+use Rattle.sel_items.specs.Follows.{NodeKey}
 use Rattle.sel_items.specs.KidSets.{kid_sets}
-use Rattle.sel_items.specs.Labels.{AreNumbered, KidsAre}
+use Rattle.sel_items.specs.Labels.{AreNumbered}
 use Rattle.sel_auto.specs.declared.key.StateKey.{StateKey}
 use Rattle.sel_auto.specs.Sets.{AreDifferent}
 use Rattle.sel_auto.specs.Keys.{numbered_key}
