@@ -14,6 +14,7 @@ use sel_sheet::{Answer, Calls, Row};
 use std::alloc::Global;
 
 /// The calls of the crates below the top call.
+#[derive(Clone, Copy)]
 pub struct Trials;
 
 fn text_called(alloc: Global, row: &Row<'_>) -> Result<String, Stop> {

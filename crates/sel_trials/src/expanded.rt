@@ -1,5 +1,4 @@
 // Texts of covers.
-ghost use Rattle.std.specs.Prelude.{◌<◌, length};
 ghost use Rattle.sel_forest.specs.Postorder.{IsTree};
 ghost use Rattle.sel_forest.specs.Valid.{IsValidForest};
 

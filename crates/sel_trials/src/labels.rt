@@ -94,12 +94,13 @@ fn put_item(text: &mut String, item: Option<Item>) -> Result<(), NoMemory> {
     Ok(())
 }
 
-// The items of the root for the user's nonterminals, with a blank between two.
+// The items of the root for each nonterminal, with a blank between two, where they are wanted.
 fn put_items<A: Automaton>(
     automaton: &mut A,
     accepted: &Accepted,
     tree: &Tree,
     labels: &Labels,
+    told: Told,
     text: &mut String,
 ) -> Result<(), NoMemory>
     requires normal { (A.told automaton.old).normal ≡ accepted.now.normal }
@@ -109,6 +110,9 @@ fn put_items<A: Automaton>(
     ensures normal { (A.told automaton.new).normal ≡ (A.told automaton.old).normal }
     ensures labelled { IsLabelling accepted.now.grammar (A.told automaton.new).means tree.now labels.now.of }
 {
+    if told == Told::States {
+        return Ok(());
+    }
     let count = accepted.normal.nonterminals();
     'items: for nonterminal in 0..count {
         if nonterminal > 0 {
@@ -191,9 +195,7 @@ fn tell<L: Ledger>(
     if told != Told::Items {
         put_states(automaton, &labels, text)?;
     }
-    if told != Told::States {
-        put_items(automaton, accepted, tree, &labels, text)?;
-    }
+    put_items(automaton, accepted, tree, &labels, told, text)?;
     let cover = reduce(automaton, alloc, grammar, normal, tree, &labels)?;
     if told == Told::All {
         put_cover(text, &cover)?;

@@ -1,5 +1,4 @@
 // Forests that are made, and the shipped grammars.
-ghost use Rattle.std.specs.Prelude.{◌≤◌};
 ghost use Rattle.sel_grammar.specs.Lawful.{IsLawful};
 
 use crate::accepted::{accept, forest_in, grammar_of, text_of};
