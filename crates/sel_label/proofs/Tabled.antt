@@ -1,17 +1,10 @@
 -- A numbered node is tabled, where held item sets fit words.
-use Rattle.std.proofs.Common.{◌≡◌, ℕ, zero, suc, ◌<◌, inl, inr, Some, List, [], ◌∷◌, length, slice_get, count_by, refl, sym, ap, subst, ◌∙◌, arith}
-use Rattle.std.proofs.lemmas.Option.{slice_get_within}
-use Rattle.sel_grammar.specs.declared.grammar.Grammar.{Grammar}
-use Rattle.sel_grammar.specs.PlainTrees.{PlainTree, Node0, Node1, Node2}
-use Rattle.sel_forest.specs.declared.forest.Node.{Node}
-use Rattle.sel_forest.specs.Places.{IsRootAt}
+use Rattle.std.proofs.Common.{ℕ, zero, suc, ◌<◌, inl, inr, List, [], ◌∷◌, length, refl, sym, subst, arith}
+use Rattle.sel_grammar.specs.PlainTrees.{Node0, Node1, Node2}
 use Rattle.sel_forest.proofs.Matching.{within}
 use Rattle.sel_items.specs.declared.label.Label.{Label}
 use Rattle.sel_items.specs.declared.label.Label.TheVariants.{Numbered, Plain}
-use Rattle.sel_items.specs.Labels.{is_plain, IsNumbered}
-use Rattle.sel_items.specs.Tabled.{IsTabled}
-use Rattle.sel_items.specs.Words.{FitsWords}
-use Rattle.sel_label.specs.Labelling.{StandsBelow, LabelAt, NumberedAreHeld, AreAllNumbered}
+use Rattle.sel_label.specs.Labelling.{LabelAt}
 use Rattle.sel_label.specs.Laws.{NumberedAreTabled, NumberedAreNotPlain}
 
 label_at : (labels : List Label) (i : ℕ) → i < length labels → (l : Label) × LabelAt labels i l
