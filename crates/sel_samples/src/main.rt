@@ -3,6 +3,7 @@
 #![tactic(auto)]
 
 mod command;
+mod counting_gate;
 mod top_call;
 
 use sel_sheet::run_sheets;

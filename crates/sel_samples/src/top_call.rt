@@ -1,5 +1,6 @@
-// The calls of the rows: the top call over texts in memory, and the words alone.
+// The calls of the rows: the top call over texts in memory, the trees that pass its gate, and the words alone.
 use crate::command::command_told;
+use crate::counting_gate::CountingGate;
 use sel_base::{MemoryShelf, MemorySink, NoMemory, OpenGate};
 use sel_cli::Status;
 use sel_cli::run::run;
@@ -14,7 +15,8 @@ const ERR_PIECE: usize = 100;
 /// A status whose fault isn't that of the line on the error stream.
 const NOT_TOLD: u64 = 999;
 
-/// `run`, in a row without a line `call`; `read_words`, in one with `call words`.
+/// `run`, in a row without a line `call`; `read_words`, in one with `call words`; and the trees that pass the gate
+/// of `run`, in one with `call gate`.
 #[derive(Clone, Copy)]
 pub struct TopCall<'r, Rt> {
     pub rt: &'r Rt,
@@ -41,6 +43,28 @@ fn is_told(status: &Status, alloc: Global, err: &[u8]) -> Result<bool, NoMemory>
     Ok(err.windows(told.len()).any(|window| window == told))
 }
 
+// The texts and the streams of a row.
+#[derive(Drop)]
+struct Outside {
+    shelf: MemoryShelf,
+    out: MemorySink,
+    err: MemorySink,
+}
+
+fn outside_of(alloc: Global, row: &Row<'_>) -> Result<Outside, NoMemory> {
+    let mut shelf = MemoryShelf::new(alloc, row.reads.as_slice())?;
+    for file in row.files.as_slice() {
+        shelf.add(file.name, file.text.as_slice())?;
+    }
+    let piece = row.piece.max(1);
+    Ok(Outside {
+        shelf,
+        out: MemorySink::new(alloc, piece, row.puts.as_slice())?,
+        err: MemorySink::new(alloc, ERR_PIECE, &[])?,
+    })
+}
+
+// How the top call ended.
 fn ended<Rt: Threads + Sync>(
     rt: &Rt,
     alloc: Global,
@@ -48,13 +72,11 @@ fn ended<Rt: Threads + Sync>(
     words: &str,
 ) -> Result<Answer, NoMemory> {
     let words = words_of(alloc, words)?;
-    let mut shelf = MemoryShelf::new(alloc, row.reads.as_slice())?;
-    for file in row.files.as_slice() {
-        shelf.add(file.name, file.text.as_slice())?;
-    }
-    let piece = row.piece.max(1);
-    let mut out = MemorySink::new(alloc, piece, row.puts.as_slice())?;
-    let mut err = MemorySink::new(alloc, ERR_PIECE, &[])?;
+    let Outside {
+        mut shelf,
+        mut out,
+        mut err,
+    } = outside_of(alloc, row)?;
     let (status, _) = run(rt, alloc, &words, &mut shelf, &mut out, &mut err, &OpenGate);
     let is_told = is_told(&status, alloc, err.bytes())?;
     Ok(Answer {
@@ -69,10 +91,35 @@ fn ended<Rt: Threads + Sync>(
     })
 }
 
+// Which trees passed the gate of the top call.
+fn passed<Rt: Threads + Sync>(
+    rt: &Rt,
+    alloc: Global,
+    row: &Row<'_>,
+    words: &str,
+) -> Result<Answer, NoMemory> {
+    let words = words_of(alloc, words)?;
+    let Outside {
+        mut shelf,
+        mut out,
+        mut err,
+    } = outside_of(alloc, row)?;
+    let gate = CountingGate::new();
+    let (status, _) = run(rt, alloc, &words, &mut shelf, &mut out, &mut err, &gate);
+    let told = gate.told(alloc)?;
+    Ok(Answer {
+        out: Vec::from_slice(alloc, told.as_bytes())?,
+        err: Vec::from_slice(alloc, err.bytes())?,
+        status: status.code() as u64,
+        no_memory: status == Status::NoMemory,
+    })
+}
+
 impl<'r, Rt: Threads + Sync> Calls for TopCall<'r, Rt> {
     fn answer(&self, alloc: Global, row: &Row<'_>, words: &str) -> Result<Answer, NoMemory> {
         match row.call {
             "words" => command_told(alloc, words),
+            "gate" => passed(self.rt, alloc, row, words),
             _ => ended(self.rt, alloc, row, words),
         }
     }
