@@ -11,6 +11,11 @@ use std::process::ExitCode;
 /// The greatest length of a sheet, in bytes.
 const LIMIT: usize = 16_777_216;
 
+/// How many bytes of what isn't as wanted are told, and how many of them stand before the first that differs.
+const MOST_TOLD: usize = 300;
+
+const BEFORE: usize = 60;
+
 /// The calls of which rows speak.
 pub trait Calls {
     /// What the row's call gives with these words.
@@ -23,8 +28,26 @@ fn tell(rt: &HostRuntime, name: &str, line: usize, text: &str) {
     let _ = eprintln!(rt; "{name}:{line}: {text}");
 }
 
-fn tell_bytes(rt: &HostRuntime, alloc: Global, what: &str, bytes: &[u8]) {
-    match String::from_utf8_lossy(alloc, bytes) {
+// How many bytes both begin with.
+fn same_bytes(one: &[u8], other: &[u8]) -> usize {
+    let mut count: usize = 0;
+    for (byte, beside) in one.iter().zip(other.iter()) {
+        if byte != beside {
+            return count;
+        }
+        count = count.saturating_add(1);
+    }
+    count
+}
+
+// The bytes round this place.
+fn bytes_at(bytes: &[u8], at: usize) -> &[u8] {
+    let rest = bytes.get(at.saturating_sub(BEFORE)..).unwrap_or(&[]);
+    rest.get(..MOST_TOLD).unwrap_or(rest)
+}
+
+fn tell_bytes(rt: &HostRuntime, alloc: Global, what: &str, bytes: &[u8], at: usize) {
+    match String::from_utf8_lossy(alloc, bytes_at(bytes, at)) {
         Ok(text) => {
             let _ = eprintln!(rt; "  {what}: {:?}", text.as_str());
         }
@@ -34,13 +57,19 @@ fn tell_bytes(rt: &HostRuntime, alloc: Global, what: &str, bytes: &[u8]) {
     }
 }
 
+// What was wanted and what came, from where they differ.
+fn tell_both(rt: &HostRuntime, alloc: Global, what: &str, wanted: &[u8], came: &[u8]) {
+    let at = same_bytes(wanted, came);
+    let _ = eprintln!(rt; "  {what}, of which {at} bytes are the same");
+    tell_bytes(rt, alloc, "wanted", wanted, at);
+    tell_bytes(rt, alloc, "came", came, at);
+}
+
 // What came, beside what was wanted.
 fn tell_answer(rt: &HostRuntime, alloc: Global, row: &Row<'_>, answer: &Answer) {
     let _ = eprintln!(rt; "  wanted status: {}, came: {}", row.status, answer.status);
-    tell_bytes(rt, alloc, "wanted out", row.out.as_slice());
-    tell_bytes(rt, alloc, "came out", answer.out.as_slice());
-    tell_bytes(rt, alloc, "wanted err", row.err.as_slice());
-    tell_bytes(rt, alloc, "came err", answer.err.as_slice());
+    tell_both(rt, alloc, "out", row.out.as_slice(), answer.out.as_slice());
+    tell_both(rt, alloc, "err", row.err.as_slice(), answer.err.as_slice());
 }
 
 fn is_as_wanted<C: Calls>(

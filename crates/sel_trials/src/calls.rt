@@ -8,7 +8,7 @@ use crate::labels::{Told, labels};
 use crate::made::{back, make, shipped};
 use crate::normal_forms::{class, normal};
 use crate::stop::Stop;
-use crate::words::packed;
+use crate::words::{fit, packed};
 use sel_base::NoMemory;
 use sel_sheet::{Answer, Calls, Row};
 use std::alloc::Global;
@@ -29,6 +29,7 @@ fn text_called(alloc: Global, row: &Row<'_>) -> Result<String, Stop> {
         "states" => labels(alloc, row, Told::States),
         "labels" => labels(alloc, row, Told::All),
         "pack" => packed(alloc, row),
+        "fits" => fit(alloc, row),
         "back" => back(alloc, row),
         "shipped" => shipped(alloc, row),
         "compare" => compare(alloc, row),

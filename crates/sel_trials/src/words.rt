@@ -1,10 +1,10 @@
-// Words of entries.
+// Words of entries, and item sets that fit them.
 ghost use Rattle.std.specs.Prelude.{IsTrue};
 ghost use Rattle.sel_items.specs.Words.{IsPackable};
 
 use crate::stop::Stop;
-use sel_base::Pair;
-use sel_items::{Item, pack, unpack};
+use sel_base::{List, Pair};
+use sel_items::{Item, Items, fits, pack, unpack};
 use sel_sheet::{Row, words_of};
 use std::alloc::Global;
 
@@ -48,4 +48,39 @@ pub fn packed(alloc: Global, row: &Row<'_>) -> Result<String, Stop> {
         return Err(Stop::Unfit("it isn't found again"));
     }
     Ok(format!(in alloc; "{word}\n")?)
+}
+
+// The entries, each `FIRST SECOND RULE` or `-`.
+fn entries_of(alloc: Global, words: &[String]) -> Result<Vec<Option<Item>>, Stop> {
+    let mut entries = Vec::new(alloc);
+    let mut numbers: Vec<&str> = Vec::new(alloc);
+    for word in words {
+        if word.as_str() == "-" {
+            entries.push(None)?;
+        } else {
+            numbers.push(word.as_str())?;
+        }
+        if let [first, second, rule] = numbers.as_slice() {
+            let Some(item) = numbers_of(first, second, rule) else {
+                return Err(Stop::Unfit("no entry"));
+            };
+            entries.push(Some(item))?;
+            numbers.clear();
+        }
+    }
+    Ok(entries)
+}
+
+/// Whether the item set of the row's entries fits words.
+pub fn fit(alloc: Global, row: &Row<'_>) -> Result<String, Stop> {
+    let words = words_of(alloc, row.words)?;
+    let items = Items {
+        entries: List::from_vec(entries_of(alloc, words.as_slice())?),
+    };
+    let told = if fits(&items) {
+        "fits\n"
+    } else {
+        "doesn't fit\n"
+    };
+    Ok(String::from_str(alloc, told)?)
 }
