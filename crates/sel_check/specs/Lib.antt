@@ -1,0 +1,5 @@
+pub mod Certificates
+pub mod Laws
+pub mod CertificateTexts
+pub mod Bounding
+pub mod TreeChecks
