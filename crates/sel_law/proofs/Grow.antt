@@ -140,7 +140,7 @@ module _ (z : Setting) where
       full = λ e r. full_grows t v (u.full e r);
     }
 
-    -- L7 where no word of the rows changed, but those that are told anew
+    -- What is asked and seen by some view, where no word of the rows changed, but those that are told anew
     pub asked_grows : Transitions z ws → (views : List View) → Asked z ws views
         → ((n : ℕ) → Published z us n → Published z ws n ⊎ ((a : Ask) × IsMadeOf z a (content z us n) × IsInSomeView views (λ v. In a v.asked)))
         → ((q : ℕ) → q < z.rows → slice_index us (row_at z q) ≢ 0 → (slice_index us (row_at z q) ≡ slice_index ws (row_at z q)) ⊎ IsInSomeView views (λ v. In (ask_of z us (key_of (slice_index us (row_at z q)))) v.asked))
@@ -164,7 +164,7 @@ module _ (z : Setting) where
           (places j lo hi ne);
     }
 
-  -- L7 where the views know more
+  -- What is asked and seen by some view, where the views know more
   pub asked_views : (ws : List ℕ) (views more : List View) → Asked z ws views
       → ((a : Ask) → IsInSomeView views (λ v. In a v.asked) → IsInSomeView more (λ v. In a v.asked))
       → ((e : ℕ × ℕ) → IsInSomeView views (λ v. In e v.places) → IsInSomeView more (λ v. In e v.places))

@@ -64,7 +64,7 @@ module _ (z : Setting) where
   pub one_content : (ws : List ℕ) (v : View) → IsTrueOf z ws v → OneContent v
   one_content ws v t n i w u h k = sym (t.contents (n, i, w) h).2 ∙ (t.contents (n, i, u) k).2
 
-  -- kind 7
+  -- the load of a content word
   pub reads : (slots id : ℕ) (m : Me (Unit {0}) View) (asks : List Ask) (n i : ℕ) → i < z.width → HeldNumber m.0 n → 1 ≤ m.0.seats
       → Allows (Holds z) slots id m (content_at z n i) (λ x. x) (λ found w. (w.0 ≡ read_entry m.0 asks (content_at z n i) n i found) × (w.1 ≡ m.1) × OneContent w.0)
   reads slots id m asks n i lt held seat s l homes at fits =
@@ -215,7 +215,7 @@ module _ (z : Setting) (ws : List ℕ) (views : List View) (l : Lawful z ws view
       }
 
 module _ (z : Setting) where
-  -- kind 6
+  -- the store of a content word
   pub drafts : (slots id : ℕ) (m : Me (Unit {0}) View) (asks : List Ask) (n i x : ℕ) → 1 ≤ m.0.seats → m.0.own ≡ Some n → i < z.width → i ≤ length m.0.draft
       → Allows (Holds z) slots id m (content_at z n i) (λ _. x) (λ _ w. (w.0 ≡ drafted m.0 asks (content_at z n i) i x) × (w.1 ≡ m.1))
   drafts slots id m asks n i x seat own within next s l homes at fits = (drafted m.0 asks (content_at z n i) i x, keeps, tt, draft_lawful z s.words s.views l id m.0 at seat asks n own i x within next, (refl, refl))

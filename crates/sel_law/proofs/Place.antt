@@ -262,7 +262,7 @@ placed_marks z ws views l id v at seat asks x a key held asked n q inside (no ta
     subst (λ b. Marks v x found (placed_as b v asks x a (content z ws (number_of found)) (row_at z q) n found)) (sym (ne_eqb found 0 taken))
     (looked_marks z ws views l id v at seat asks x a key held asked q inside)
 
--- kind 2
+-- the exchange of a transition word
 pub places : (z : Setting) (slots id : ℕ) (m : Me (Unit {0}) View) (asks : List Ask) (x : ℕ) (a : Ask) → IsKey x → HeldKey m.0 x a → In a (m.0.asked ++ asks)
     → (n : ℕ) (c : List ℕ) → HeldNumber m.0 n → HeldWhole m.0 n c → IsMadeOf z a c → (q : ℕ) → q < z.rows → WalkedRow m.0 x q → 1 ≤ m.0.seats
     → Allows (Holds z) slots id m (row_at z q) (λ k. either (k == 0) (word_of x n) k)

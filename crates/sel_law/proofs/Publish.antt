@@ -235,7 +235,7 @@ module _ (z : Setting) (ws : List ℕ) (views : List View) (l : Lawful z ws view
       len (x ∷ xs) zero v e = omega arith
       len (x ∷ xs) (suc id) v e = omega (arith, len xs id v e)
 
--- kind 4, as it is found
+-- the exchange of an intern word, as it is found
 pub stood_found : (z : Setting) (ws : List ℕ) (views : List View) (l : Lawful z ws views) (id : ℕ) (v : View) (at : get_elem? views id ≡ some v) (seat : 1 ≤ v.seats)
     (asks : List Ask) (n : ℕ) (own : v.own ≡ Some n) (whole : length v.draft ≡ z.width)
     (a : Ask) (asked : In a (v.asked ++ asks)) (is_made : IsMadeOf z a v.draft)

@@ -118,7 +118,7 @@ module _ (z : Setting) (ws : List ℕ) (views : List View) (l : Lawful z ws view
       omega arith)
 
 module _ (z : Setting) where
-  -- kind 3, and kind 1 where the word has another key or none
+  -- the load of an intern word, and of a transition word that has another key or none
   pub looks : (slots id : ℕ) (m : Me (Unit {0}) View) (asks : List Ask) (i : ℕ) → 1 ≤ i → i < row_at z z.rows → 1 ≤ m.0.seats
       → Allows (Holds z) slots id m i (λ n. n) (λ found w. (w.0 ≡ seen m.0 asks i found) × (w.1 ≡ m.1) × NotAll m.0 i found × Below m.0 i found × TellsStates m.0 i found)
   looks slots id m asks i lo hi seat s l homes at fits = (
@@ -129,7 +129,7 @@ module _ (z : Setting) where
     (refl, refl, not_all z s.words s.views l id m.0 at seat i, found_below z s.words s.views l id m.0 at seat i lo, state_tells z s.words s.views l id m.0 at seat i),
   )
 
-  -- kind 1
+  -- the load of a transition word
   pub looks_row : (slots id : ℕ) (m : Me (Unit {0}) View) (asks : List Ask) (x : ℕ) (a : Ask) → IsKey x → HeldKey m.0 x a → In a (m.0.asked ++ asks) → (q : ℕ) → q < z.rows → 1 ≤ m.0.seats
       → Allows (Holds z) slots id m (row_at z q) (λ n. n)
       (λ found w. (c : List ℕ) × (w.0 ≡ looked m.0 asks x a c (row_at z q) found) × (w.1 ≡ m.1) × Learns m.0 x a c found × OneContent w.0 × Tells m.0 x a (row_at z q) found × Stays m.0 a w.0 × Marks m.0 x found w.0)
@@ -149,7 +149,7 @@ stood_seats : (b : Bool) (v : View) (asks : List Ask) (place n found : ℕ) → 
 stood_seats true v asks place n found h = h
 stood_seats false v asks place n found h = h
 
--- kind 4
+-- the exchange of an intern word
 pub stands : (z : Setting) (slots id : ℕ) (m : Me (Unit {0}) View) (asks : List Ask) (n : ℕ) → 1 ≤ m.0.seats → m.0.own ≡ Some n → length m.0.draft ≡ z.width
     → (a : Ask) → In a (m.0.asked ++ asks) → IsMadeOf z a m.0.draft → (p : ℕ) → p < 2 * z.states → WalkedStates m.0 m.0.draft p
     → Allows (Holds z) slots id m (intern_at p) (λ k. either (k == 0) (n + 1) k)

@@ -34,7 +34,7 @@ asking v asks = record v { steps = v.steps + 1; asked = v.asked ++ asks }
 abbrev pub seen : View → List Ask → ℕ → ℕ → View
 seen v asks place found = record v { steps = v.steps + 1; last = (v.steps + 1, place, found); places = cond (found == 0) v.places (v.places ++ (place, found) ∷ []); asked = v.asked ++ asks }
 
--- kind 5
+-- a number was drawn: the view's own where it is below the bound, else one past it
 abbrev pub drew_as : Bool → View → List Ask → ℕ → View
 drew_as true v asks found = record v { steps = v.steps + 1; asked = v.asked ++ asks; own = Some found; draft = [] }
 drew_as false v asks found = record v { steps = v.steps + 1; asked = v.asked ++ asks; past = v.past + 1; used_up = true }
@@ -46,7 +46,7 @@ drew v asks found = drew_as (nat_lt found v.setting.states) v asks found
 abbrev pub drafted : View → List Ask → ℕ → ℕ → ℕ → View
 drafted v asks place i w = record v { steps = v.steps + 1; last = (v.steps + 1, place, w); asked = v.asked ++ asks; draft = take i v.draft ++ w ∷ [] }
 
--- kind 7
+-- an entry of a published number's content was read
 abbrev pub read_entry : View → List Ask → ℕ → ℕ → ℕ → ℕ → View
 read_entry v asks place n i found = record v { steps = v.steps + 1; last = (v.steps + 1, place, found); contents = v.contents ++ (n, i, found) ∷ []; asked = v.asked ++ asks }
 
@@ -55,7 +55,7 @@ abbrev pub entries : ℕ → ℕ → List ℕ → List (ℕ × ℕ × ℕ)
 entries n i [] = []
 entries n i (w ∷ ws) = (n, i, w) ∷ entries n (i + 1) ws
 
--- kind 4
+-- the own number was published
 abbrev pub stood : View → List Ask → ℕ → ℕ → View
 stood v asks place n = record v { steps = v.steps + 1; last = (v.steps + 1, place, n + 1); places = v.places ++ (place, n + 1) ∷ []; contents = v.contents ++ entries n 0 v.draft; asked = v.asked ++ asks; own = None; draft = [] }
 
@@ -63,7 +63,7 @@ abbrev pub stood_as : Bool → View → List Ask → ℕ → ℕ → ℕ → Vie
 stood_as true v asks place n found = stood v asks place n
 stood_as false v asks place n found = seen v asks place found
 
--- kind 8
+-- a seat was split off, or another view's joined
 abbrev pub left_view : View → View
 left_view v = record v { steps = v.steps + 1; rest = v.rest - 1 }
 
@@ -132,7 +132,7 @@ all_other z ps x (suc k) = other_at ps (row_at z k) x && all_other z ps x k
 abbrev pub is_hit : ℕ → ℕ → Bool
 is_hit x found = not (found == 0) && (key_of found == x)
 
--- kind 1, for the key x, which is a by item sets, where c is the content of the number that is found
+-- a transition word was read for the key x, which is a by item sets, where c is the content of the number that is found
 abbrev pub looked : View → List Ask → ℕ → Ask → List ℕ → ℕ → ℕ → View
 looked v asks x a c place found = record v {
   steps = v.steps + 1;
@@ -144,7 +144,7 @@ looked v asks x a c place found = record v {
   row_full = v.row_full || all_other v.setting (cond (found == 0) v.places (v.places ++ (place, found) ∷ [])) x v.setting.rows;
 }
 
--- kind 2
+-- a transition was published, or the word found in its place
 abbrev pub placed : View → List Ask → ℕ → Ask → ℕ → ℕ → View
 placed v asks x a place n = record v {
   steps = v.steps + 1;

@@ -35,7 +35,7 @@ own_count (Some n) = 1
 abbrev pub NoGap : List ℕ → ℕ → ℕ → ℕ → ℕ → Type 0
 NoGap ws base m home d = (j : ℕ) → j < d → slice_index ws (base + walk m home j) ≢ 0
 
--- L1, of the transition word w at the place q
+-- A transition, the word w at the place q: its number and its kids' are published, no word from its key's home up to it is 0, and its number's content is what follows from its key.
 pub record TransitionAt (z : Setting) (ws : List ℕ) (q w : ℕ) : Type 0 where
   pub number : Published z ws (number_of w)
   pub kids : KidsPublished z ws (key_of w)
@@ -47,7 +47,7 @@ pub record Transitions (z : Setting) (ws : List ℕ) : Type 0 where
   pub each : (q : ℕ) → q < z.rows → slice_index ws (row_at z q) ≢ 0 → TransitionAt z ws q (slice_index ws (row_at z q))
   pub differ : (q r : ℕ) → q < z.rows → r < z.rows → slice_index ws (row_at z q) ≢ 0 → slice_index ws (row_at z r) ≢ 0 → key_of (slice_index ws (row_at z q)) ≡ key_of (slice_index ws (row_at z r)) → q ≡ r
 
--- L2, of the number n that is published at the place p
+-- A state, the number n that is published at the place p: it is below the bound and the counter, and no word from its content's home up to it is 0.
 pub record StateAt (z : Setting) (ws : List ℕ) (p n : ℕ) : Type 0 where
   pub below : n < z.states
   pub drawn : n < slice_index ws 0
@@ -57,7 +57,7 @@ pub record States (z : Setting) (ws : List ℕ) : Type 0 where
   pub each : (p n : ℕ) → p < 2 * z.states → slice_index ws (intern_at p) ≡ n + 1 → StateAt z ws p n
   pub differ : (p q m n : ℕ) → p < 2 * z.states → q < 2 * z.states → slice_index ws (intern_at p) ≡ m + 1 → slice_index ws (intern_at q) ≡ n + 1 → content z ws m ≡ content z ws n → p ≡ q
 
--- L3 and L4, of one view
+-- What one view holds is true of the words now, and its own number is drawn, published nowhere, and has the draft as its content.
 pub record IsTrueOf (z : Setting) (ws : List ℕ) (v : View) : Type 0 where
   pub places : (e : ℕ × ℕ) → In e v.places → (1 ≤ e.0) × (e.0 < row_at z z.rows) × (e.1 ≢ 0) × (slice_index ws e.0 ≡ e.1)
   pub contents : (e : ℕ × ℕ × ℕ) → In e v.contents → Published z ws e.0 × (e.1 < z.width) × (slice_index ws (content_at z e.0 e.1) ≡ e.2)
@@ -70,7 +70,7 @@ pub record Owns (z : Setting) (ws : List ℕ) (draft : List ℕ) (n : ℕ) : Typ
   pub short : length draft ≤ z.width
   pub draft_is : (i : ℕ) → i < length draft → slice_index ws (content_at z n i) ≡ slice_index draft i
 
--- L6, of one view
+-- Where a view is marked row full, every transition word is in use, and one of its asked keys is published nowhere.
 abbrev pub Full : Setting → List ℕ → View → Type 0
 Full z ws v = ((q : ℕ) → q < z.rows → slice_index ws (row_at z q) ≢ 0) × ((a : Ask) × In a v.asked × ((q : ℕ) → q < z.rows → node_key (ask_of z ws (key_of (slice_index ws (row_at z q)))) ≢ node_key a))
 
@@ -93,7 +93,7 @@ dropped views = weigh (λ (v : View). v.dropped) views
 abbrev pub past : List View → ℕ
 past views = weigh (λ (v : View). v.past) views
 
--- L5
+-- How many numbers are published, views' own, given up and past the bound, and how many seats there are: together they make the counter and the workers.
 pub record Counts (z : Setting) (ws : List ℕ) (views : List View) : Type 0 where
   pub counter : slice_index ws 0 ≡ published z ws + owned views + dropped views + past views
   pub room : published z ws + owned views + dropped views ≤ z.states
@@ -105,7 +105,7 @@ pub record Counts (z : Setting) (ws : List ℕ) (views : List View) : Type 0 whe
 abbrev pub IsInSomeView : List View → (View → Type 0) → Type 0
 IsInSomeView views P = (i : ℕ) × (v : View) × (get_elem? views i ≡ some v) × P v
 
--- L7
+-- Each published content follows from a key that some view was asked, each transition's key was asked, each word in use stands in some view's places, and all views have one setting.
 pub record Asked (z : Setting) (ws : List ℕ) (views : List View) : Type 0 where
   pub states : (n : ℕ) → Published z ws n → (a : Ask) × IsMadeOf z a (content z ws n) × IsInSomeView views (λ v. In a v.asked)
   pub rows : (q : ℕ) → q < z.rows → slice_index ws (row_at z q) ≢ 0 → IsInSomeView views (λ v. In (ask_of z ws (key_of (slice_index ws (row_at z q)))) v.asked)
