@@ -25,7 +25,6 @@ use sel_base::{Gate, NoMemory, Shelf, Sink, SinkFault, write_all_of};
 use sel_grammar::Grammar;
 use sel_words::{Command, Job, Mode, Settings, read_words};
 use std::alloc::Global;
-use std::marker::Sync;
 use std::thread::Threads;
 
 // How a run ended, and the text of which its status speaks.
@@ -208,7 +207,7 @@ fn obey<'a, S: Shelf, K: Sink, G: Gate>(
 /// for a shipped grammar's, or makes the forest, writes the cheapest cover of each tree, the text that it expands
 /// to, a summary of the covers, or the grammar or the forest in print, to `out`, and says how it ended. The
 /// status's line goes to `err`.
-pub fn run<S: Shelf, K: Sink, E: Sink, G: Gate, Rt: Threads + Sync>(
+pub fn run<S: Shelf, K: Sink, E: Sink, G: Gate, Rt: Threads>(
     _rt: &Rt,
     alloc: Global,
     words: &[String],

@@ -6,7 +6,6 @@ use sel_cli::Status;
 use sel_cli::run::run;
 use sel_sheet::{Answer, Calls, Row, words_of};
 use std::alloc::Global;
-use std::marker::Sync;
 use std::thread::Threads;
 
 /// The most bytes that the error stream takes at once.
@@ -65,7 +64,7 @@ fn outside_of(alloc: Global, row: &Row<'_>) -> Result<Outside, NoMemory> {
 }
 
 // How the top call ended.
-fn ended<Rt: Threads + Sync>(
+fn ended<Rt: Threads>(
     rt: &Rt,
     alloc: Global,
     row: &Row<'_>,
@@ -92,7 +91,7 @@ fn ended<Rt: Threads + Sync>(
 }
 
 // Which trees passed the gate of the top call.
-fn passed<Rt: Threads + Sync>(
+fn passed<Rt: Threads>(
     rt: &Rt,
     alloc: Global,
     row: &Row<'_>,
@@ -115,7 +114,7 @@ fn passed<Rt: Threads + Sync>(
     })
 }
 
-impl<'r, Rt: Threads + Sync> Calls for TopCall<'r, Rt> {
+impl<'r, Rt: Threads> Calls for TopCall<'r, Rt> {
     fn answer(&self, alloc: Global, row: &Row<'_>, words: &str) -> Result<Answer, NoMemory> {
         match row.call {
             "words" => command_told(alloc, words),

@@ -1,4 +1,4 @@
 use Rattle.sel_trials.proofs.compared.compare_in.Given as goal
 
 abbrev pub ghosts-compare_counted : goal.ghosts-compare_counted
-ghosts-compare_counted g a = record { name = (a.blank).name; parts = (a.blank).parts }
+ghosts-compare_counted a = record { name = (a.blank).name; parts = (a.blank).parts }
