@@ -11,6 +11,7 @@ use Rattle.sel_grammar.specs.Chains.{HasNoFreeCycle}
 use Rattle.sel_grammar.specs.Limits.{IsWithinLimits}
 use Rattle.sel_grammar.specs.SmallCosts.{HasSmallCosts, IsSmall}
 use Rattle.sel_grammar.proofs.CostLaws.{cheaper_not_both, cheaper_not_same, sum_none}
+use Rattle.sel_grammar.proofs.LawfulCosts.{lawful_costs}
 use Rattle.sel_grammar.proofs.Short.{best_is_small, AreCheapest, cheapest_kids_short, costs_small, small_within, subtrees_within}
 use Rattle.sel_normal.specs.Forms.{places}
 use Rattle.sel_normal.specs.Goals.{BeatAll, IsBestPart}
@@ -96,5 +97,5 @@ module _ (g : Grammar) (t : PlainTree) (within : IsWithinLimits g) (small : HasS
 pub items_are_kid_sets : ItemsAreKidSets
 items_are_kid_sets g normal t i k few h = record {
   long = sym (h.reduced).long ∙ h.long ∙ sym (k.form).nonterminals;
-  small = entry_below g t (k.lawful).within k.costs (k.accepted).free i h few;
+  small = entry_below g t (k.lawful).within (lawful_costs g k.lawful) (k.accepted).free i h few;
 }

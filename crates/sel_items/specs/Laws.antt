@@ -4,7 +4,6 @@ use Rattle.sel_grammar.specs.declared.grammar.Grammar.{Grammar}
 use Rattle.sel_grammar.specs.Costs.{Cost}
 use Rattle.sel_grammar.specs.Lawful.{IsLawful}
 use Rattle.sel_grammar.specs.PlainTrees.{PlainTree, attribute_of, size}
-use Rattle.sel_grammar.specs.SmallCosts.{HasSmallCosts}
 use Rattle.sel_range.specs.Limits.{IsAttributeValue}
 use Rattle.sel_normal.specs.declared.normal.NormalRule.{NormalRule}
 use Rattle.sel_normal.specs.NormalForms.{NormalForm, normal_at}
@@ -21,10 +20,9 @@ use Rattle.sel_items.specs.ItemsOf.{IsItemsOf, IsKeyOf, attribute_number}
 use Rattle.sel_items.specs.Unpacking.{unpacked}
 use Rattle.sel_items.specs.Words.{FitsWords, IsPackable, IsWordOf}
 
--- A grammar that is lawful and accepted, the costs of its rules within their limit, and its normal form.
+-- A grammar that is lawful and accepted, and its normal form.
 pub record IsAcceptedForm (g : Grammar) (normal : NormalForm) : Type 0 where
   pub lawful : IsLawful g
-  pub costs : HasSmallCosts g
   pub accepted : IsAccepted g
   pub form : IsFormOf g normal
 

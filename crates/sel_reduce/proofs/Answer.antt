@@ -10,6 +10,7 @@ use Rattle.sel_grammar.specs.Best.{HasNone}
 use Rattle.sel_grammar.specs.Firsts.{IsFirst}
 use Rattle.sel_grammar.proofs.CostLaws.{sum_none, sum_before}
 use Rattle.sel_grammar.proofs.Firsts.{IsBest-first}
+use Rattle.sel_grammar.proofs.LawfulCosts.{lawful_costs}
 use Rattle.sel_grammar.proofs.Short.{best_is_short, cost_small, small_within}
 use Rattle.sel_forest.specs.declared.forest.Node.{Node}
 use Rattle.sel_forest.specs.declared.walk.Goal.{Goal}
@@ -68,7 +69,7 @@ module _ (g : Grammar) (normal : NormalForm) (nodes : List Node) (t : PlainTree)
           root = stands;
           best = d;
           first = f;
-          small = small_within g ok.costs (length (list d)) most_nodes (cost g d) (cost_small g ok.costs d)
+          small = small_within g (lawful_costs g ok.lawful) (length (list d)) most_nodes (cost g d) (cost_small g (lawful_costs g ok.lawful) d)
               (let s = best_is_short g g.start t d (ok.lawful).within (ok.accepted).free (IsBest-first g d g.start t f) in omega arith);
           kids = more d no_more ∷ [];
           for = (record { tree = t; root = stands; part = Leaf g.start; stands = inl ((ok.lawful).within.start, refl); under = t ∷ []; lies = refl; firsts = (f, tt) }, tt);

@@ -8,6 +8,7 @@ use Rattle.sel_grammar.specs.Costs.{Cost, ◌⊕◌, paid}
 use Rattle.sel_grammar.specs.Derivations.{Derivations, cost, costs, lists}
 use Rattle.sel_grammar.specs.SmallCosts.{HasSmallCosts, IsSmall}
 use Rattle.sel_grammar.proofs.CostLaws.{sum_assoc, sum_before}
+use Rattle.sel_grammar.proofs.LawfulCosts.{lawful_costs}
 use Rattle.sel_grammar.proofs.Short.{costs_small}
 use Rattle.sel_forest.specs.declared.forest.Node.{Node}
 use Rattle.sel_forest.specs.declared.walk.Goal.{Goal}
@@ -115,7 +116,7 @@ module _ (g : Grammar) (normal : NormalForm) (nodes : List Node) (ok : IsAccepte
     sum_small : IsSmall most_cost (so_far ⊕ paid nr.cost)
     sum_small =
         small_part most_cost (cost g half.best) (so_far ⊕ paid nr.cost) (all_costs g kids) half.small summed
-        (no_less so_far.second (pos (nr.cost).second) half.low (paid_low (nr.cost).second)) (costs_low g ok.costs kids)
+        (no_less so_far.second (pos (nr.cost).second) half.low (paid_low (nr.cost).second)) (costs_low g (lawful_costs g ok.lawful) kids)
 
     rule_is : (rule : NormalRule) → normal_at normal number ≡ Some rule → nr ≡ rule
     rule_is rule h = some_same (sym n.numbered ∙ h)

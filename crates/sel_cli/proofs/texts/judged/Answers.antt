@@ -1,11 +1,9 @@
-use Rattle.sel_grammar.proofs.LawfulCosts.{lawful_costs}
 use Rattle.sel_cli.proofs.Endings.{normal_judged}
 use Rattle.sel_cli.proofs.texts.judged.Goals as goal
 
 pub returns-in-Ok-clause-form : goal.returns-in-Ok-clause-form
 returns-in-Ok-clause-form c = record {
   lawful = c.in_ok-grammar.ensures.lawful;
-  costs = lawful_costs _ c.in_ok-grammar.ensures.lawful;
   accepted = c.in-Ok.ensures.accepted;
   form = c.in-Ok.ensures.form;
 }
