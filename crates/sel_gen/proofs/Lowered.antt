@@ -1,9 +1,8 @@
 -- A rule that lowers a size: the sizes stay derivations', and come nearer to the least.
-use Rattle.std.proofs.Common.{◌≡◌, ℕ, zero, suc, ◌+◌, ◌<◌, ◌≤◌, ◌⊎◌, inl, inr, Bool, true, false, nat_le, if◌then◌else◌, List, [], ◌∷◌, ◌++◌, length, refl, ap, sym, ◌∙◌, subst, arith, Option, Some, None, slice_get, get_or, length-append, add-one}
-use Rattle.std.specs.Prelude.{slice_set}
-use Rattle.std.specs.Option.{option_map, option_flatten}
-use Rattle.std.proofs.lemmas.List.Sums.{sum_by-set}
-use Rattle.std.proofs.lemmas.Option.{slice_get-get_or}
+use Rattle.std.proofs.Common.{◌≡◌, ℕ, ◌+◌, ◌<◌, ◌≤◌, ◌⊎◌, inl, inr, Bool, true, false, nat_le, if◌then◌else◌, List, [], ◌∷◌, ◌++◌, length, refl, ap, sym, ◌∙◌, subst, arith, Option, Some, None, slice_get, get_or, length-append, add-one}
+use Rattle.std.specs.Option.{option_map}
+use Rattle.sel_base.proofs.Shared.Bettering.{place_at-get_or, place_at-set_same, place_at-set_other, total_falls}
+use Rattle.sel_base.proofs.Shared.Choices.{at_most_or_above, same_or_other}
 use Rattle.sel_grammar.specs.declared.grammar.Grammar.{Grammar}
 use Rattle.sel_grammar.specs.declared.grammar.Pattern.{Pattern, Leaf, Nullary, Unary', Binary', end_of-Pattern, more_of-Pattern}
 use Rattle.sel_grammar.specs.declared.grammar.Rule.{Rule}
@@ -77,29 +76,10 @@ offer_of limit sizes rule k h = go (is_usable rule.range) refl h
         let (kids, sum, one_more) = rule_size_of sizes rule k at in
         record { usable = e; within = within; kids = kids; sum = sum; one_more = one_more }
 
--- sizes after a write
-size_at-set_same : (sizes : Sizes) (n : ℕ) (o : Option ℕ) → n < length sizes → size_at (slice_set sizes n o) n ≡ o
-size_at-set_same [] n o h = absurd (omega arith)
-size_at-set_same (x ∷ sizes) zero o h = refl
-size_at-set_same (x ∷ sizes) (suc n) o h = size_at-set_same sizes n o (omega arith)
-
-size_at-set_other : (sizes : Sizes) (n m : ℕ) (o : Option ℕ) → (n ≡ m → ⊥) → size_at (slice_set sizes n o) m ≡ size_at sizes m
-size_at-set_other [] n m o h = refl
-size_at-set_other (x ∷ sizes) zero zero o h = absurd (h refl)
-size_at-set_other (x ∷ sizes) zero (suc m) o h = refl
-size_at-set_other (x ∷ sizes) (suc n) zero o h = refl
-size_at-set_other (x ∷ sizes) (suc n) (suc m) o h = size_at-set_other sizes n m o (λ e. h (ap suc e))
-
-same_or_other : (a b : ℕ) → (a ≡ b) ⊎ (a ≡ b → ⊥)
-same_or_other a b = grind arith
-
 nearer : (limit : ℕ) (o : Option ℕ) (k : ℕ) → k ≤ limit → (IsAtMost o k → ⊥) → k < distance limit o
 nearer limit None k h less = omega arith
-nearer limit (Some j) k h less = go (two j k)
+nearer limit (Some j) k h less = go (at_most_or_above j k)
   where
-    two : (a b : ℕ) → (a ≤ b) ⊎ (b < a)
-    two a b = grind arith
-
     go : (j ≤ k) ⊎ (k < j) → k < j
     go (inl l) = absurd (less l)
     go (inr l) = l
@@ -120,18 +100,15 @@ module _ (g : Grammar) (limit number : ℕ) (rule : Rule) (old new : Sizes) (the
   pub total-lowered : total_distance limit new < total_distance limit old
   total-lowered =
       let near : low.size < distance limit (get_or old rule.left None) =
-      subst (λ o. low.size < distance limit o) (ap option_flatten (slice_get-get_or old rule.left None inside)) (nearer limit (size_at old rule.left) low.size offer.within low.less) in
-      rw (low.set) (less _ _ _ _ near (sum_by-set (distance limit) old rule.left (Some low.size) None inside))
-    where
-      less : (new old near far : ℕ) → near < far → new + far ≡ old + near → new < old
-      less new old near far h k = omega arith
+      subst (λ o. low.size < distance limit o) (place_at-get_or old rule.left inside) (nearer limit (size_at old rule.left) low.size offer.within low.less) in
+      total_falls (distance limit) old new rule.left (Some low.size) low.set inside near
 
   new_at : (n k : ℕ) → size_at new n ≡ Some k → ((rule.left ≡ n) × (low.size ≡ k)) ⊎ (size_at old n ≡ Some k)
   new_at n k h = go (same_or_other rule.left n)
     where
       go : (rule.left ≡ n) ⊎ (rule.left ≡ n → ⊥) → ((rule.left ≡ n) × (low.size ≡ k)) ⊎ (size_at old n ≡ Some k)
-      go (inl q) = inl (q, some_same (sym (ap (λ x. size_at x rule.left) low.set ∙ size_at-set_same old rule.left (Some low.size) inside) ∙ ap (size_at new) q ∙ h))
-      go (inr d) = inr (sym (ap (λ x. size_at x n) low.set ∙ size_at-set_other old rule.left n (Some low.size) d) ∙ h)
+      go (inl q) = inl (q, some_same (sym (ap (λ x. size_at x rule.left) low.set ∙ place_at-set_same old rule.left (Some low.size) inside) ∙ ap (size_at new) q ∙ h))
+      go (inr d) = inr (sym (ap (λ x. size_at x n) low.set ∙ place_at-set_other old rule.left n (Some low.size) d) ∙ h)
 
   pub AreUpTo-lowered : AreUpTo limit old → AreUpTo limit new
   AreUpTo-lowered up n k h = go (new_at n k h)

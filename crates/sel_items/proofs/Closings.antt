@@ -1,9 +1,8 @@
 -- A row that takes a chain rule's offer comes nearer to the least row, and its entries stay the ends of ways.
 use Rattle.std.proofs.Common.{◌≡◌, ℕ, suc, ◌+◌, ◌*◌, ◌<◌, ◌≤◌, ◌^◌, ◌⊎◌, inl, inr, List, [], ◌∷◌, length, refl, ap, subst, sym, ◌∙◌, Option, Some, None, arith, ℤ, pos, negsuc, ◌+ℤ◌, ◌<ℤ◌, neg_ℤ, get_or}
 use Rattle.std.proofs.lemmas.Int.{ints}
-use Rattle.std.proofs.lemmas.List.Sums.{sum_by-set}
-use Rattle.std.proofs.lemmas.Option.{slice_get-get_or}
-use Rattle.std.specs.Option.{option_flatten}
+use Rattle.sel_base.proofs.Shared.Bettering.{place_at-get_or, place_at-set_same, place_at-set_other, total_falls}
+use Rattle.sel_base.proofs.Shared.Choices.{same_or_other}
 use Rattle.sel_grammar.specs.declared.grammar.RuleCost.{RuleCost}
 use Rattle.sel_grammar.specs.Costs.{Cost, ◌⊕◌, IsCheaper, paid}
 use Rattle.sel_grammar.proofs.CostLaws.{right_cheaper, same_sums, cheaper_trans, cheaper_same, same_cheaper, cheaper_not_same, cheaper_or_not, paid_more}
@@ -17,8 +16,8 @@ use Rattle.sel_items.specs.ChainPasses.{IsTurned, AllStand, CostsNoMore, NotIn, 
 use Rattle.sel_items.specs.Offers.{offer_for, Stands, IsBettered}
 use Rattle.sel_items.specs.Follows.{item_cost}
 use Rattle.sel_normal.proofs.Steps.{some_same, some_none}
-use Rattle.sel_items.proofs.Rows.{item_at-set_same, item_at-set_other, length-slice_set, below_or_not, no_entry}
-use Rattle.sel_items.proofs.Pigeons.{Distinct, AllBelow, same_or_other, pigeons}
+use Rattle.sel_items.proofs.Rows.{length-slice_set, below_or_not, no_entry}
+use Rattle.sel_items.proofs.Pigeons.{Distinct, AllBelow, pigeons}
 
 -- an offer against which an entry doesn't stand
 pub later_than : (e f : Item) → (NoLater e.cost e.rule f.cost f.rule → ⊥) → IsCheaper f.cost e.cost ⊎ ((f.cost ≡ e.cost) × (f.rule < e.rule))
@@ -50,10 +49,10 @@ entry_within row n item h = go (below_or_not n (length row))
 -- a row that took an offer
 module _ (left : ℕ) (offer : Option Item) (old new : ItemRow) (b : IsBettered left offer old new) (inside : left < length old) where
   pub new_same : item_at new left ≡ Some (b.item)
-  new_same = ap (λ x. item_at x left) b.set ∙ item_at-set_same old left (Some (b.item)) inside
+  new_same = ap (λ x. item_at x left) b.set ∙ place_at-set_same old left (Some (b.item)) inside
 
   pub new_other : (n : ℕ) → (left ≡ n → ⊥) → item_at new n ≡ item_at old n
-  new_other n h = ap (λ x. item_at x n) b.set ∙ item_at-set_other old left n (Some (b.item)) h
+  new_other n h = ap (λ x. item_at x n) b.set ∙ place_at-set_other old left n (Some (b.item)) h
 
   pub new_long : length new ≡ length old
   new_long = ap length b.set ∙ length-slice_set old left (Some (b.item))
@@ -113,16 +112,12 @@ nearer (Some e) f low r h k = go (later_than e f (h e refl))
         let s = l.1 in
         omega arith
 
-item_at-get_or : (row : ItemRow) (n : ℕ) → n < length row → item_at row n ≡ get_or row n None
-item_at-get_or row n h = ap option_flatten (slice_get-get_or row n None h)
-
 pub total_distance-bettered : (left : ℕ) (offer : Option Item) (old new : ItemRow) → (b : IsBettered left offer old new) → left < length old → IsBelow 61 (b.item).cost → (b.item).rule < 2 ^ 16 → AreBelow 61 old
     → total_distance new < total_distance old
 total_distance-bettered left offer old new b h low few all =
-    let here = item_at-get_or old left h in
+    let here = place_at-get_or old left h in
     let near = nearer (get_or old left None) b.item low few (λ e q. b.later e (here ∙ q)) (λ e q. all left e (here ∙ q)) in
-    let s = sum_by-set distance old left (Some (b.item)) None h in
-    rw (b.set) (omega arith)
+    total_falls distance old new left (Some (b.item)) b.set h near
 
 -- what is on a simple way has an entry that costs no more than the way
 on_way : (normal : NormalForm) (start row : ItemRow) (n m : ℕ) (ms : List ℕ) (k : Cost) → IsSimple start row m ms k → (NotIn n (m ∷ ms) → ⊥) → CostsNoMore row n k

@@ -1,5 +1,6 @@
 -- A list of different numbers below n has at most n of them.
 use Rattle.std.proofs.Common.{◌≡◌, ℕ, zero, suc, ◌+◌, ◌<◌, ◌≤◌, ◌⊎◌, inl, inr, List, [], ◌∷◌, length, subst, sym, arith}
+use Rattle.sel_base.proofs.Shared.Choices.{same_or_other}
 use Rattle.sel_items.specs.ChainPasses.{NotIn}
 
 abbrev pub Distinct : List ℕ → Type 0
@@ -9,9 +10,6 @@ Distinct (x ∷ xs) = NotIn x xs × Distinct xs
 abbrev pub AllBelow : ℕ → List ℕ → Type 0
 AllBelow n [] = Unit {0}
 AllBelow n (x ∷ xs) = (x < n) × AllBelow n xs
-
-pub same_or_other : (a b : ℕ) → (a ≡ b) ⊎ (a ≡ b → ⊥)
-same_or_other a b = grind arith
 
 -- the list without one n
 pub record Without (n : ℕ) (xs : List ℕ) : Type 0 where

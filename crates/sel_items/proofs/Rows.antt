@@ -1,24 +1,13 @@
 -- Entries of a row that is read and written place by place.
 use Rattle.std.proofs.Common.{◌≡◌, ℕ, zero, suc, ◌+◌, ◌<◌, ◌≤◌, ◌⊎◌, inl, inr, [], ◌∷◌, length, map, refl, ap, subst, sym, ◌∙◌, Option, Some, None, arith}
 use Rattle.std.specs.Prelude.{slice_set}
+use Rattle.sel_base.proofs.Shared.Bettering.{place_at-set_same, place_at-set_other}
 use Rattle.sel_grammar.specs.Costs.{Cost, no_cost, ◌⊕◌, IsCheaper}
 use Rattle.sel_grammar.proofs.CostLaws.{cheaper_not_same, cheaper_trans, cheaper_same, same_cheaper, right_cheaper, sum_none, sum_same}
 use Rattle.sel_items.specs.declared.items.Item.{Item}
 use Rattle.sel_items.specs.Entries.{ItemRow, item_at, raised, IsReduced}
 use Rattle.sel_items.specs.LeastCosts.{LeastCost, WithEntry}
 use Rattle.sel_normal.proofs.Steps.{some_same, some_none}
-
-pub item_at-set_same : (row : ItemRow) (n : ℕ) (o : Option Item) → n < length row → item_at (slice_set row n o) n ≡ o
-item_at-set_same [] n o h = absurd (omega arith)
-item_at-set_same (x ∷ row) zero o h = refl
-item_at-set_same (x ∷ row) (suc n) o h = item_at-set_same row n o (omega arith)
-
-pub item_at-set_other : (row : ItemRow) (n m : ℕ) (o : Option Item) → (n ≡ m → ⊥) → item_at (slice_set row n o) m ≡ item_at row m
-item_at-set_other [] n m o h = refl
-item_at-set_other (x ∷ row) zero zero o h = absurd (h refl)
-item_at-set_other (x ∷ row) zero (suc m) o h = refl
-item_at-set_other (x ∷ row) (suc n) zero o h = refl
-item_at-set_other (x ∷ row) (suc n) (suc m) o h = item_at-set_other row n m o (λ e. h (ap suc e))
 
 pub length-slice_set : (row : ItemRow) (n : ℕ) (o : Option Item) → length (slice_set row n o) ≡ length row
 length-slice_set [] n o = refl
@@ -109,14 +98,14 @@ pub reduced_more : (n : ℕ) (least : Cost) (old row : ItemRow) (o : Option Item
 reduced_more n least old row o inside t is = record {
   long = length-slice_set row n o ∙ t.long;
   before = λ k l. go k (below_or_at k n l);
-  behind = λ k l. item_at-set_other row n k o (λ q. absurd (omega arith)) ∙ t.behind k (omega arith);
+  behind = λ k l. place_at-set_other row n k o (λ q. absurd (omega arith)) ∙ t.behind k (omega arith);
 }
   where
     go : (k : ℕ) → (k < n) ⊎ (n ≡ k) → item_at old k ≡ raised least (item_at (slice_set row n o) k)
-    go k (inl b) = t.before k b ∙ ap (raised least) (sym (item_at-set_other row n k o (λ q. absurd (omega arith))))
+    go k (inl b) = t.before k b ∙ ap (raised least) (sym (place_at-set_other row n k o (λ q. absurd (omega arith))))
     go k (inr q) =
         subst (λ x. item_at old x ≡ raised least (item_at (slice_set row n o) x)) q
-        (sym (t.behind n (omega arith)) ∙ is ∙ ap (raised least) (sym (item_at-set_same row n o inside)))
+        (sym (t.behind n (omega arith)) ∙ is ∙ ap (raised least) (sym (place_at-set_same row n o inside)))
 
 pub reduced_all : (n : ℕ) (least : Cost) (old row : ItemRow) → length old ≤ n → IsReducedTo n least old row → (k : ℕ) → item_at old k ≡ raised least (item_at row k)
 reduced_all n least old row h t k = go (below_or_not k n)

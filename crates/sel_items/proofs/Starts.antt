@@ -3,6 +3,7 @@ use Rattle.std.proofs.Common.{◌≡◌, ℕ, zero, suc, ◌+◌, ◌<◌, ◌�
 use Rattle.std.specs.Prelude.{replicate}
 use Rattle.std.proofs.lemmas.List.{length-replicate}
 use Rattle.std.proofs.lemmas.Option.{slice_get_within}
+use Rattle.sel_base.proofs.Shared.Choices.{same_or_other}
 use Rattle.sel_grammar.specs.Costs.{Cost, ◌⊕◌, paid}
 use Rattle.sel_grammar.proofs.CostLaws.{right_cheaper, same_sums}
 use Rattle.sel_normal.specs.declared.normal.NormalRule.{NormalRule}
@@ -15,7 +16,6 @@ use Rattle.sel_items.specs.Follows.{NodeKey, operator_cost, IsCandidate, first_r
 use Rattle.sel_items.specs.Entries.{ItemRow, item_at, NoLater}
 use Rattle.sel_items.specs.CostBounds.{IsBelow}
 use Rattle.sel_normal.proofs.Steps.{some_same, some_none}
-use Rattle.sel_items.proofs.Pigeons.{same_or_other}
 use Rattle.sel_items.proofs.Closings.{no_later_trans, new_same, new_other, new_long, sooner}
 
 module _ (normal : NormalForm) (key : NodeKey) (start row : ItemRow) (s : IsStart normal key start) (closed : IsClosedFrom normal start row) where

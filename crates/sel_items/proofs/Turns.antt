@@ -1,10 +1,10 @@
 -- One turn of the loop that offers each chain rule to a row.
-use Rattle.std.proofs.Common.{◌≡◌, ℕ, zero, suc, ◌+◌, ◌<◌, ◌⊎◌, inl, inr, Bool, true, false, length, refl, ap, sym, ◌∙◌, subst, arith, Some, slice_get, add-one}
+use Rattle.std.proofs.Common.{◌≡◌, ℕ, zero, suc, ◌+◌, ◌<◌, ◌⊎◌, inl, inr, length, ap, sym, ◌∙◌, subst, arith, Some, slice_get, add-one}
 use Rattle.sel_normal.specs.declared.normal.NormalRule.{NormalRule}
 use Rattle.sel_normal.specs.NormalForms.{NormalForm, normal_at}
 use Rattle.sel_items.specs.Entries.{ItemRow}
 use Rattle.sel_items.specs.CostBounds.{AreBelow}
-use Rattle.sel_items.specs.ChainPasses.{IsTurned, ChainStands, AllStand, KeepsRow, HasStart, total_distance}
+use Rattle.sel_items.specs.ChainPasses.{IsTurned, ChainStands, AllStand, KeepsRow, HasStart}
 use Rattle.sel_normal.proofs.Steps.{some_same, some_none}
 use Rattle.sel_items.proofs.Rows.{length-slice_set}
 use Rattle.sel_items.proofs.Closings.{IsKeptFrom-turned, AreBelow-kept}
@@ -28,10 +28,6 @@ module _ (normal : NormalForm) (old : ItemRow) where
   pub stands_all : (k : ℕ) → ((j : ℕ) (rule : NormalRule) → slice_get normal.rules j ≡ Some rule → j < k) → StandsTo k → AllStand normal old
   stands_all k within h zero rule at = absurd (some_none (sym at))
   stands_all k within h (suc j) rule at = subst (λ x. ChainStands rule x old) (add-one j) (h j rule (within j rule at) at)
-
-  pub falls_more : (row new : ItemRow) (changed : Bool) → (changed ≡ false → row ≡ old) → (changed ≡ true → total_distance row < total_distance old) → total_distance new < total_distance row → total_distance new < total_distance old
-  falls_more row new true stays falls h = let f = falls refl in omega arith
-  falls_more row new false stays falls h = subst (λ x. total_distance new < total_distance x) (stays refl) h
 
   pub keeps_more : (row new : ItemRow) (k : ℕ) (rule : NormalRule) → slice_get normal.rules k ≡ Some rule → rule.left < length row → KeepsRow normal old row → IsTurned rule (k + 1) row new → KeepsRow normal old new
   keeps_more row new k rule at inside keeps t start low kept =

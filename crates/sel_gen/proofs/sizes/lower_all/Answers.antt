@@ -1,6 +1,7 @@
 -- Each turn keeps the sizes derivations', and either leaves them or lowers one.
-use Rattle.std.proofs.Common.{arith, ◌≡◌, ◌<◌, ◌+◌, length, slice_get, Some, sym, ap, ◌∙◌, subst, ℕ, Bool, true, false, refl}
+use Rattle.std.proofs.Common.{arith, ◌≡◌, ◌<◌, ◌+◌, length, slice_get, Some, sym, ap, ◌∙◌, subst, ℕ, true, false, refl}
 use Rattle.std.proofs.lemmas.Option.{slice_get_read, slice_get_within}
+use Rattle.sel_base.proofs.Shared.Bettering.{falls_more}
 use Rattle.sel_grammar.specs.declared.grammar.Rule.{Rule}
 use Rattle.sel_gen.specs.Sizes.{Sizes}
 use Rattle.sel_gen.specs.Lowering.{AreUpTo, AreBuilt, total_distance}
@@ -8,10 +9,6 @@ use Rattle.sel_gen.proofs.Settled.{WithstoodTo, WithstoodTo-more}
 use Rattle.sel_gen.proofs.Lowered.{total-lowered, AreUpTo-lowered, AreBuilt-lowered}
 use Rattle.sel_gen.proofs.sizes.lower_all.Goals as goal
 use Rattle.sel_gen.proofs.sizes.lower_all.Goals.{then-lower, else-lower}
-
-falls_more : (limit : ℕ) (old sizes new : Sizes) (changed : Bool) → (changed ≡ false → sizes ≡ old) → (changed ≡ true → total_distance limit sizes < total_distance limit old) → total_distance limit new < total_distance limit sizes → total_distance limit new < total_distance limit old
-falls_more limit old sizes new true same falls h = let f = falls refl in omega arith
-falls_more limit old sizes new false same falls h = subst (λ x. total_distance limit new < total_distance limit x) (same refl) h
 
 pub lower-requires-clause-left : goal.lower-requires-clause-left
 lower-requires-clause-left c =
@@ -50,7 +47,7 @@ loop-k-preserved c =
           record {
             long = long;
             withstood = λ e. cc;
-            falls = λ e. falls_more limit old sizes new c.loop-k.changed i.same i.falls (total-lowered g limit k rule sizes new at inside low);
+            falls = λ e. falls_more (total_distance limit) old sizes new c.loop-k.changed i.same i.falls (total-lowered g limit k rule sizes new at inside low);
             same = λ e. cc;
             within = AreUpTo-lowered g limit k rule sizes new at inside low i.within;
             built = AreBuilt-lowered g limit k rule sizes new at inside low i.built;

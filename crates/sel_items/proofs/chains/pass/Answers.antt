@@ -1,10 +1,11 @@
 -- Each turn keeps what the row is, and either leaves it or brings it nearer to the least row.
 use Rattle.std.proofs.Common.{arith, ◌≡◌, ◌<◌, ◌+◌, length, slice_get, Some, add-one, ℕ, sym, ap, ◌∙◌, subst}
 use Rattle.std.proofs.lemmas.Option.{slice_get_within}
+use Rattle.sel_base.proofs.Shared.Bettering.{falls_more}
 use Rattle.sel_normal.specs.declared.normal.NormalRule.{NormalRule}
 use Rattle.sel_normal.specs.NormalForms.{NormalForm, normal_at}
 use Rattle.sel_items.specs.ChainPasses.{ChainStands, KeepsRow, total_distance}
-use Rattle.sel_items.proofs.Turns.{stands_more, stands_all, falls_more, keeps_more, long_more, below_now}
+use Rattle.sel_items.proofs.Turns.{stands_more, stands_all, keeps_more, long_more, below_now}
 use Rattle.sel_items.proofs.chains.pass.Goals as goal
 use Rattle.sel_items.proofs.chains.pass.Goals.{then-turn, else-turn}
 
@@ -36,7 +37,7 @@ loop-k-preserved g c =
             long = long_more normal old rule _ row new t i.long;
             stays = λ e. cc;
             stands = λ e. cc;
-            falls = λ e. falls_more normal old row new c.loop-k.changed i.stays i.falls (c.turn.ensures.falls w.if-turn.true);
+            falls = λ e. falls_more total_distance old row new c.loop-k.changed i.stays i.falls (c.turn.ensures.falls w.if-turn.true);
             steps = (let a = i.steps in let e = c.tick.ensures in omega arith);
             keeps = keeps_more normal old row new k rule at inside i.keeps t;
           }
