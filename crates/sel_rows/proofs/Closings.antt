@@ -37,6 +37,7 @@ module _ (z : Setting) (ws : List ℕ) (v : View) (cl : Closes z ws v) where
     rows = λ q lt ne. (
         let t = cl.rows.each q lt ne in
         (t.number, (ask_of z ws (key_of (row_word z ws q)), cl.asked_rows q lt ne, refl), t.made_of.follows));
+    kids = λ q lt ne. (cl.rows.each q lt ne).kids;
     rows_differ = λ q r lq lr nq nr e. (
         let t = cl.rows.each q lq nq in
         let u = cl.rows.each r lr nr in

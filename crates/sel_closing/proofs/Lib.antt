@@ -1,0 +1,7 @@
+pub mod Members
+pub mod Asks
+pub mod Keeping
+pub mod SnapshotLists
+pub mod Closing
+pub mod PlainNodes
+pub mod Adding

@@ -1,0 +1,88 @@
+-- Laws of closed tables and their parts.
+use Rattle.std.specs.Prelude.{◌≡◌, ◌↔◌, ℕ, ◌+◌, ◌-◌, ◌^◌, Bool, true, false, List, [], ◌∷◌, ◌++◌, min}
+use Rattle.std.specs.List.{Contains}
+use Rattle.sel_grammar.specs.declared.grammar.Grammar.{Grammar}
+use Rattle.sel_grammar.specs.PlainTrees.{PlainTree}
+use Rattle.sel_forest.specs.declared.forest.Forest.{Forest}
+use Rattle.sel_forest.specs.declared.forest.Tree.{Tree}
+use Rattle.sel_forest.specs.Places.{IsRootAt}
+use Rattle.sel_forest.specs.Valid.{IsValidTree, IsValidForest}
+use Rattle.sel_normal.specs.NormalForms.{NormalForm}
+use Rattle.sel_items.specs.declared.label.Label.{Label}
+use Rattle.sel_items.specs.Automata.{Keeps}
+use Rattle.sel_items.specs.Labels.{IsPlain}
+use Rattle.sel_items.specs.Laws.{IsAcceptedForm}
+use Rattle.sel_items.specs.Tabled.{IsTabled}
+use Rattle.sel_label.specs.Labelling.{AddsOfTree, AreLabelled, LabelAt}
+use Rattle.sel_rows.specs.declared.part.PassPart.{PassPart}
+use Rattle.sel_rows.specs.declared.pass.Pass.{Pass}
+use Rattle.sel_rows.specs.declared.snapshot.Snapshot.{Snapshot}
+use Rattle.sel_rows.specs.Parts.{AreFresh}
+use Rattle.sel_rows.specs.Tables.{IsPassOf}
+use Rattle.sel_rows.specs.Told.{told_of_pass}
+use Rattle.sel_work.specs.Kept.{AreTabledKept, IsPlainCount}
+use Rattle.sel_count.specs.Counted.{IsCountedTable, IsWholeTable}
+use Rattle.sel_count.specs.Counts.{CountIs}
+use Rattle.sel_count.specs.Things.{AreValid}
+use Rattle.sel_closing.specs.Asking.{told_of_part, AsksOnly, TellsMore, PartsAskOnly, PartsKeep, PartsTellMore}
+use Rattle.sel_closing.specs.Closings.{IsClosingOf}
+use Rattle.sel_closing.specs.SnapshotTables.{Room, table_of}
+use Rattle.sel_closing.specs.Untabled.{IsUntabledAt, IsUntabledPlace}
+
+-- The trees of a valid forest are valid.
+abbrev pub ForestsAreValid : Type 0
+ForestsAreValid = (g : Grammar) (forest : Forest) → IsValidForest g forest → AreValid g forest.trees
+
+-- New parts asked nothing.
+abbrev pub FreshAskNothing : Type 0
+FreshAskNothing = (g : Grammar) (trees : List Tree) (parts : List PassPart) → AreFresh parts → PartsAskOnly g trees parts
+
+-- What asked only of trees asked only of more trees.
+abbrev pub AskOfMore : Type 0
+AskOfMore = (g : Grammar) (trees more : List Tree) (parts : List PassPart) → ((tree : Tree) → Contains trees tree → Contains more tree) → PartsAskOnly g trees parts → PartsAskOnly g more parts
+
+-- A pass tells what the part that it is over tells.
+abbrev pub PassesTellOfParts : Type 0
+PassesTellOfParts = (p : PassPart) (s : Pass) → IsPassOf p s → TellsMore (told_of_part p) (told_of_pass s) × TellsMore (told_of_pass s) (told_of_part p)
+    × ((g : Grammar) (trees : List Tree) → AsksOnly g trees (told_of_part p) ↔ AsksOnly g trees (told_of_pass s))
+
+-- The answer of a tree asks only keys that may be asked of trees of which it is one, and loses nothing.
+abbrev pub AnswersAskOnly : Type 0
+AnswersAskOnly = (g : Grammar) (trees : List Tree) (tree : Tree) (old new : Pass) → Contains trees tree → AddsOfTree g tree.nodes (told_of_pass old) (told_of_pass new)
+    → AsksOnly g trees (told_of_pass old) → AsksOnly g trees (told_of_pass new)
+
+abbrev pub AnswersTellMore : Type 0
+AnswersTellMore = (old new : Pass) → Keeps (told_of_pass old) (told_of_pass new) → TellsMore (told_of_pass old) (told_of_pass new)
+
+-- What a part keeps of a tree is kept by one that tells no less.
+abbrev pub KeptStaysKept : Type 0
+KeptStaysKept = (g : Grammar) (tree : Tree) (old new : PassPart) → TellsMore (told_of_part old) (told_of_part new) → AreTabledKept g tree.nodes (told_of_part old) → AreTabledKept g tree.nodes (told_of_part new)
+
+-- So it is with all parts and all trees.
+abbrev pub PartsStillKeep : Type 0
+PartsStillKeep = (g : Grammar) (trees : List Tree) (old new : List PassPart) → PartsTellMore old new → PartsKeep g trees old → PartsKeep g trees new
+
+-- What keeps two lists of trees keeps both, one behind the other.
+abbrev pub PartsKeepBoth : Type 0
+PartsKeepBoth = (g : Grammar) (xs ys : List Tree) (parts : List PassPart) → PartsKeep g xs parts → PartsKeep g ys parts → PartsKeep g (xs ++ ys) parts
+
+-- A closed table of which the parts asked only keys of valid trees tells of them what a table and its marks are to tell. Where the parts keep the trees it tells all.
+abbrev pub SnapshotsTell : Type 0
+SnapshotsTell = (g : Grammar) (normal : NormalForm) (trees : List Tree) (room : Room) (parts : List PassPart) (s : Snapshot) (used_up row_full : Bool)
+    → IsAcceptedForm g normal → AreValid g trees → IsClosingOf normal room parts s used_up row_full → PartsAskOnly g trees parts
+    → IsCountedTable g normal trees (table_of room s used_up row_full) × (PartsKeep g trees parts → IsWholeTable g trees (table_of room s used_up row_full))
+
+-- Where a pass isn't used up behind a labelling, exactly the nodes that aren't tabled have plain labels.
+abbrev pub PlainAreUntabled : Type 0
+PlainAreUntabled = (g : Grammar) (tree : Tree) (s : Pass) (labels : List Label) (i : ℕ) (u : PlainTree) (l : Label) → AreLabelled g tree.nodes (told_of_pass s) labels → s.used_up ≡ false
+    → IsRootAt tree.nodes i u → LabelAt labels i l → IsPlain l ↔ (IsTabled g u → ⊥)
+
+-- So its count of plain labels is that of these nodes.
+abbrev pub PlainCountsUntabled : Type 0
+PlainCountsUntabled = (g : Grammar) (tree : Tree) (s : Pass) (n : ℕ) → IsValidTree g tree → IsPlainCount g tree.nodes (told_of_pass s) n → s.used_up ≡ false → CountIs (IsUntabledPlace g (tree ∷ [])) n
+
+-- No trees have no nodes, the nodes of two lists of trees add up, and their number is one.
+abbrev pub UntabledAddUp : Type 0
+UntabledAddUp = (g : Grammar) → CountIs (IsUntabledPlace g []) 0
+    × ((xs ys : List Tree) (m n : ℕ) → CountIs (IsUntabledPlace g xs) m → CountIs (IsUntabledPlace g ys) n → CountIs (IsUntabledPlace g (xs ++ ys)) (m + n))
+    × ((trees : List Tree) (m n : ℕ) → CountIs (IsUntabledPlace g trees) m → CountIs (IsUntabledPlace g trees) n → m ≡ n)
