@@ -8,7 +8,7 @@ use Rattle.sel_forest.specs.declared.forest.Tree.{Tree}
 use Rattle.sel_count.specs.Counts.{AllDiffer, CountIs}
 use Rattle.sel_count.proofs.Counting.{one_count}
 use Rattle.sel_count.proofs.Elements.{IsOneOf, is_one_of, contains}
-use Rattle.sel_closing.specs.Laws.{UntabledAddUp}
+use Rattle.sel_closing.specs.Laws.{UntabledAddUp, StoppedCountsAddUp}
 use Rattle.sel_closing.specs.Untabled.{IsUntabledAt, IsUntabledPlace}
 use Rattle.sel_closing.proofs.Keeping.{in_append}
 use Rattle.sel_closing.proofs.Members.{in_map, out_map}
@@ -110,3 +110,16 @@ both g xs ys m n c d = record {
 
 pub untabled_add_up : UntabledAddUp
 untabled_add_up g = (no_trees g, both g, λ trees m n. one_count (IsUntabledPlace g trees) m n)
+
+stopped : (m n a b : ℕ) → a ≡ min m (2 ^ 64 - 1) → b ≡ min n (2 ^ 64 - 1) → min (a + b) (2 ^ 64 - 1) ≡ min (m + n) (2 ^ 64 - 1)
+stopped m n a b e f = grind arith
+
+not_stopped : (n : ℕ) → n < 2 ^ 64 → n ≡ min n (2 ^ 64 - 1)
+not_stopped n h = grind arith
+
+pub stopped_counts_add_up : StoppedCountsAddUp
+stopped_counts_add_up g = (
+  (0, no_trees g, refl),
+  λ trees n lt c. (n, c, not_stopped n lt),
+  λ xs ys a b c d. (c.0 + d.0, both g xs ys c.0 d.0 c.1 d.1, stopped c.0 d.0 a b c.2 d.2),
+)

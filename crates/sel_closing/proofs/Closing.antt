@@ -234,7 +234,7 @@ same_room : (z : Setting) (normal : NormalForm) (room : Room) → IsSettingOf z 
 same_room z normal room h = λ i. record { states = h.states_is i; keys = h.rows_is i; workers = h.workers_is i }
 
 pub snapshots_tell : SnapshotsTell
-snapshots_tell g normal trees room parts s used_up row_full form valid by asks =
+snapshots_tell normal room parts s used_up row_full by g trees form valid asks =
     let z = by.setting in
     let of : (p : PassPart) → In p parts → (view_of p).setting ≡ z = λ p i. (by.parts_of p i).setting in
     let here = same_room z normal room by.made_for in

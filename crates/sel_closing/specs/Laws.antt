@@ -1,5 +1,5 @@
 -- Laws of closed tables and their parts.
-use Rattle.std.specs.Prelude.{◌≡◌, ◌↔◌, ℕ, ◌+◌, ◌-◌, ◌^◌, Bool, true, false, List, [], ◌∷◌, ◌++◌, min}
+use Rattle.std.specs.Prelude.{◌≡◌, ◌↔◌, ℕ, ◌+◌, ◌-◌, ◌<◌, ◌^◌, Bool, true, false, List, [], ◌∷◌, ◌++◌, min}
 use Rattle.std.specs.List.{Contains}
 use Rattle.sel_grammar.specs.declared.grammar.Grammar.{Grammar}
 use Rattle.sel_grammar.specs.PlainTrees.{PlainTree}
@@ -11,7 +11,6 @@ use Rattle.sel_normal.specs.NormalForms.{NormalForm}
 use Rattle.sel_items.specs.declared.label.Label.{Label}
 use Rattle.sel_items.specs.Automata.{Keeps}
 use Rattle.sel_items.specs.Labels.{IsPlain}
-use Rattle.sel_items.specs.Laws.{IsAcceptedForm}
 use Rattle.sel_items.specs.Tabled.{IsTabled}
 use Rattle.sel_label.specs.Labelling.{AddsOfTree, AreLabelled, LabelAt}
 use Rattle.sel_rows.specs.declared.part.PassPart.{PassPart}
@@ -21,13 +20,12 @@ use Rattle.sel_rows.specs.Parts.{AreFresh}
 use Rattle.sel_rows.specs.Tables.{IsPassOf}
 use Rattle.sel_rows.specs.Told.{told_of_pass}
 use Rattle.sel_work.specs.Kept.{AreTabledKept, IsPlainCount}
-use Rattle.sel_count.specs.Counted.{IsCountedTable, IsWholeTable}
 use Rattle.sel_count.specs.Counts.{CountIs}
 use Rattle.sel_count.specs.Things.{AreValid}
 use Rattle.sel_closing.specs.Asking.{told_of_part, AsksOnly, TellsMore, PartsAskOnly, PartsKeep, PartsTellMore}
-use Rattle.sel_closing.specs.Closings.{IsClosingOf}
-use Rattle.sel_closing.specs.SnapshotTables.{Room, table_of}
-use Rattle.sel_closing.specs.Untabled.{IsUntabledAt, IsUntabledPlace}
+use Rattle.sel_closing.specs.Closings.{IsClosingOf, TellsOfTrees}
+use Rattle.sel_closing.specs.SnapshotTables.{Room}
+use Rattle.sel_closing.specs.Untabled.{IsUntabledPlace, CountsUntabled}
 
 -- The trees of a valid forest are valid.
 abbrev pub ForestsAreValid : Type 0
@@ -66,11 +64,10 @@ PartsStillKeep = (g : Grammar) (trees : List Tree) (old new : List PassPart) →
 abbrev pub PartsKeepBoth : Type 0
 PartsKeepBoth = (g : Grammar) (xs ys : List Tree) (parts : List PassPart) → PartsKeep g xs parts → PartsKeep g ys parts → PartsKeep g (xs ++ ys) parts
 
--- A closed table of which the parts asked only keys of valid trees tells of them what a table and its marks are to tell. Where the parts keep the trees it tells all.
+-- A closed table tells of the trees what it is to tell.
 abbrev pub SnapshotsTell : Type 0
-SnapshotsTell = (g : Grammar) (normal : NormalForm) (trees : List Tree) (room : Room) (parts : List PassPart) (s : Snapshot) (used_up row_full : Bool)
-    → IsAcceptedForm g normal → AreValid g trees → IsClosingOf normal room parts s used_up row_full → PartsAskOnly g trees parts
-    → IsCountedTable g normal trees (table_of room s used_up row_full) × (PartsKeep g trees parts → IsWholeTable g trees (table_of room s used_up row_full))
+SnapshotsTell = (normal : NormalForm) (room : Room) (parts : List PassPart) (s : Snapshot) (used_up row_full : Bool)
+    → IsClosingOf normal room parts s used_up row_full → TellsOfTrees normal room parts s used_up row_full
 
 -- Where a pass isn't used up behind a labelling, exactly the nodes that aren't tabled have plain labels.
 abbrev pub PlainAreUntabled : Type 0
@@ -86,3 +83,9 @@ abbrev pub UntabledAddUp : Type 0
 UntabledAddUp = (g : Grammar) → CountIs (IsUntabledPlace g []) 0
     × ((xs ys : List Tree) (m n : ℕ) → CountIs (IsUntabledPlace g xs) m → CountIs (IsUntabledPlace g ys) n → CountIs (IsUntabledPlace g (xs ++ ys)) (m + n))
     × ((trees : List Tree) (m n : ℕ) → CountIs (IsUntabledPlace g trees) m → CountIs (IsUntabledPlace g trees) n → m ≡ n)
+
+-- So do counts that stop at the greatest number of 64 bits.
+abbrev pub StoppedCountsAddUp : Type 0
+StoppedCountsAddUp = (g : Grammar) → CountsUntabled g [] 0
+    × ((trees : List Tree) (n : ℕ) → n < 2 ^ 64 → CountIs (IsUntabledPlace g trees) n → CountsUntabled g trees n)
+    × ((xs ys : List Tree) (a b : ℕ) → CountsUntabled g xs a → CountsUntabled g ys b → CountsUntabled g (xs ++ ys) (min (a + b) (2 ^ 64 - 1)))

@@ -1,5 +1,5 @@
 //! Laws of closed tables and their parts. The functions do nothing: their contracts say them.
-ghost use Rattle.sel_closing.specs.Laws.{ForestsAreValid, FreshAskNothing, AskOfMore, PassesTellOfParts, AnswersAskOnly, AnswersTellMore, KeptStaysKept, PartsStillKeep, PartsKeepBoth, SnapshotsTell, PlainAreUntabled, PlainCountsUntabled, UntabledAddUp};
+ghost use Rattle.sel_closing.specs.Laws.{ForestsAreValid, FreshAskNothing, AskOfMore, PassesTellOfParts, AnswersAskOnly, AnswersTellMore, KeptStaysKept, PartsStillKeep, PartsKeepBoth, SnapshotsTell, PlainAreUntabled, PlainCountsUntabled, UntabledAddUp, StoppedCountsAddUp};
 
 /// The trees of a valid forest are valid.
 pub fn forests_are_valid()
@@ -44,7 +44,9 @@ pub fn plain_are_untabled()
     ensures count { PlainCountsUntabled }
 {}
 
-/// No trees have no nodes, and the nodes of two lists of trees that aren't tabled add up.
+/// No trees have no nodes, and the nodes of two lists of trees that aren't tabled add up, as counts that stop at the
+/// greatest number of 64 bits do.
 pub fn untabled_add_up()
-    ensures { UntabledAddUp }
+    ensures exact { UntabledAddUp }
+    ensures stopped { StoppedCountsAddUp }
 {}
