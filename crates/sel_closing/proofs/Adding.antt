@@ -1,5 +1,5 @@
 -- The nodes of two lists of trees that aren't tabled add up.
-use Rattle.std.proofs.Common.{◌≡◌, ◌⊎◌, inl, inr, ℕ, zero, suc, ◌+◌, ◌-◌, ◌<◌, ◌≤◌, ◌^◌, Some, List, [], ◌∷◌, ◌++◌, length, map, refl, sym, ap, subst, ◌∙◌, arith}
+use Rattle.std.proofs.Common.{◌≡◌, ◌⊎◌, inl, inr, ℕ, zero, suc, ◌+◌, ◌-◌, ◌<◌, ◌^◌, Some, List, [], ◌∷◌, ◌++◌, length, map, refl, sym, ap, subst, ◌∙◌, arith}
 use Rattle.std.specs.Prelude.{slice_get, min}
 use Rattle.std.proofs.lemmas.List.{length-map, length-append}
 use Rattle.std.proofs.lemmas.Option.{slice_get_within}
@@ -35,7 +35,7 @@ append_differ {A} (x ∷ xs) ys d e apart = (
     none (inr m) = apart x (inl refl) m
 
 get_left : (xs ys : List Tree) (j : ℕ) (t : Tree) → slice_get xs j ≡ Some t → slice_get (xs ++ ys) j ≡ Some t
-get_left [] ys j t get = let lt = slice_get_within {X = Tree} [] j get in absurd (omega arith)
+get_left [] ys j t get = let lt = slice_get_within [] j t get in absurd (omega arith)
 get_left (x ∷ xs) ys zero t get = get
 get_left (x ∷ xs) ys (suc j) t get = get_left xs ys j t get
 
@@ -61,7 +61,7 @@ no_trees : (g : Grammar) → CountIs (IsUntabledPlace g []) 0
 no_trees g = record {
   list = [];
   differ = tt;
-  exactly = λ p. (λ c. absurd (is_one_of [] p c), λ w. (let lt = slice_get_within {X = Tree} [] p.0 w.1 in absurd (omega arith)));
+  exactly = λ p. (λ c. absurd (is_one_of [] p c), λ w. (let lt = slice_get_within [] p.0 w.0 w.1 in absurd (omega arith)));
   count = refl;
 }
 
@@ -70,8 +70,9 @@ both g xs ys m n c d = record {
   list = c.list ++ map (behind (length xs)) d.list;
   differ = append_differ c.list (map (behind (length xs)) d.list) c.differ (map_differ (behind (length xs)) d.list one d.differ) apart;
   exactly = λ p. (
-      λ h. sound p (in_append p c.list (map (behind (length xs)) d.list) (is_one_of (c.list ++ map (behind (length xs)) d.list) p h)),
-      λ w. contains (c.list ++ map (behind (length xs)) d.list) p (whole p w.0 w.2 (get_either xs ys p.0 w.0 w.1)));
+    λ h. sound p (in_append p c.list (map (behind (length xs)) d.list) (is_one_of (c.list ++ map (behind (length xs)) d.list) p h)),
+    λ w. contains (c.list ++ map (behind (length xs)) d.list) p (whole p w.0 w.2 (get_either xs ys p.0 w.0 w.1)),
+  );
   count = (
       let a = length-append c.list (map (behind (length xs)) d.list) in
       let b = length-map d.list (behind (length xs)) in
@@ -90,7 +91,7 @@ both g xs ys m n c d = record {
     apart : (p : ℕ × ℕ) → IsOneOf p c.list → IsOneOf p (map (behind (length xs)) d.list) → ⊥
     apart p h k =
         let u = (c.exactly p).0 (contains c.list p h) in
-        let lt = slice_get_within xs p.0 u.1 in
+        let lt = slice_get_within xs p.0 u.0 u.1 in
         let r = out_map (behind (length xs)) d.list p k in
         let e : length xs + (r.0).0 ≡ p.0 = ap (λ (q : ℕ × ℕ). q.0) r.2 in
         absurd (omega arith)

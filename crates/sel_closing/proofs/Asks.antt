@@ -9,14 +9,11 @@ use Rattle.sel_items.specs.declared.items.Items.{Items}
 use Rattle.sel_items.specs.Automata.{Told, Keeps}
 use Rattle.sel_items.specs.Follows.{NodeKey}
 use Rattle.sel_items.specs.Words.{FitsWords}
-use Rattle.sel_label.specs.Labelling.{AreHeldBelow, IsAskedKey, IsOfNumber, AddsOfTree}
+use Rattle.sel_label.specs.Labelling.{AreHeldBelow, IsAskedKey, IsOfNumber}
 use Rattle.sel_law.specs.declared.View.{View}
 use Rattle.sel_law.specs.Words.{In}
 use Rattle.sel_law.proofs.Base.{in_nil}
-use Rattle.sel_rows.specs.declared.part.PassPart.{PassPart}
-use Rattle.sel_rows.specs.declared.pass.Pass.{Pass}
 use Rattle.sel_rows.specs.Meanings.{IsAsked, IsKnown, IsHeld}
-use Rattle.sel_rows.specs.Tables.{view_of, IsPassOf}
 use Rattle.sel_rows.specs.Told.{pass_view, told_of_pass}
 use Rattle.sel_count.specs.Things.{IsAskableKey}
 use Rattle.sel_count.proofs.Asked.{asked_may_be_asked, asked_of_more}

@@ -1,5 +1,5 @@
 -- A closed table tells of the trees what a table and its marks are to tell.
-use Rattle.std.proofs.Common.{◌≡◌, ◌≢◌, inl, inr, ℕ, ◌+◌, ◌<◌, ◌≤◌, Bool, true, false, List, length, map, refl, sym, ap, subst, ◌∙◌, arith}
+use Rattle.std.proofs.Common.{◌≡◌, ◌≢◌, ℕ, ◌+◌, ◌<◌, ◌≤◌, Bool, true, false, List, length, map, refl, sym, ap, subst, ◌∙◌, arith}
 use Rattle.std.specs.List.{Contains}
 use Rattle.std.proofs.lemmas.List.{length-map}
 use Rattle.sel_grammar.specs.declared.grammar.Grammar.{Grammar}
@@ -12,10 +12,9 @@ use Rattle.sel_items.specs.Words.{FitsWords}
 use Rattle.sel_items.proofs.ItemLaws.{items_are_one}
 use Rattle.sel_law.specs.declared.Setting.{Setting}
 use Rattle.sel_law.specs.declared.View.{View}
-use Rattle.sel_law.specs.Words.{In, read, row_at, Published, published, key_of, number_of}
+use Rattle.sel_law.specs.Words.{In, row_at, Published, published, number_of}
 use Rattle.sel_rows.specs.declared.part.PassPart.{PassPart}
 use Rattle.sel_rows.specs.declared.snapshot.Snapshot.{Snapshot}
-use Rattle.sel_rows.specs.declared.snapshot.State.{State}
 use Rattle.sel_rows.specs.declared.snapshot.Transition.{Transition}
 use Rattle.sel_rows.specs.Closed.{IsClosedTable, state_items, row_word, row_key}
 use Rattle.sel_rows.specs.Closing.{IsClosedBy}
@@ -31,7 +30,6 @@ use Rattle.sel_count.proofs.Asked.{trees_have_keys}
 use Rattle.sel_count.proofs.Elements.{IsOneOf, is_one_of, contains}
 use Rattle.sel_count.proofs.Marks.{closed_tables_tell}
 use Rattle.sel_closing.specs.Asking.{PartsAskOnly, PartsKeep, AreMarksOf}
-use Rattle.sel_closing.specs.Closings.{IsClosingOf}
 use Rattle.sel_closing.specs.Laws.{SnapshotsTell}
 use Rattle.sel_closing.specs.SnapshotTables.{Room, closed_state, closed_transition, items_by_number, key_by_items, table_of}
 use Rattle.sel_closing.proofs.Members.{in_one_of, one_of_in, in_map, out_map}

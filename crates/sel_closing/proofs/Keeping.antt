@@ -1,9 +1,7 @@
 -- What parts keep of trees.
 use Rattle.std.proofs.Common.{◌≡◌, ◌⊎◌, inl, inr, Bool, true, false, List, [], ◌∷◌, ◌++◌, refl}
-use Rattle.std.specs.List.{Contains}
 use Rattle.sel_grammar.specs.declared.grammar.Grammar.{Grammar}
 use Rattle.sel_forest.specs.declared.forest.Node.{Node}
-use Rattle.sel_forest.specs.declared.forest.Tree.{Tree}
 use Rattle.sel_items.specs.Automata.{Told, KeepsMark}
 use Rattle.sel_law.specs.Words.{In}
 use Rattle.sel_rows.specs.declared.part.PassPart.{PassPart}

@@ -3,5 +3,6 @@ pub mod Asks
 pub mod Keeping
 pub mod SnapshotLists
 pub mod Closing
+pub mod PartMarks
 pub mod PlainNodes
 pub mod Adding

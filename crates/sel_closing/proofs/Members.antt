@@ -1,5 +1,5 @@
 -- Two ways in which a list has an element.
-use Rattle.std.proofs.Common.{◌≡◌, ◌⊎◌, inl, inr, ℕ, zero, suc, List, [], ◌∷◌, map, refl, ap}
+use Rattle.std.proofs.Common.{◌≡◌, inl, inr, zero, suc, List, [], ◌∷◌, map, refl, ap}
 use mathlib.Core.Option.{some, some-injective}
 use Rattle.sel_law.specs.Words.{In}
 use Rattle.sel_law.proofs.Base.{in_nil}

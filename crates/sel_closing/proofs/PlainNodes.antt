@@ -1,5 +1,5 @@
 -- The nodes that have plain labels.
-use Rattle.std.proofs.Common.{◌≡◌, ◌⊎◌, inl, inr, ℕ, zero, suc, ◌+◌, ◌<◌, ◌≤◌, cond, false, Some, List, [], ◌∷◌, length, map, refl, sym, ap, subst, ◌∙◌, arith}
+use Rattle.std.proofs.Common.{◌≡◌, inl, inr, ℕ, zero, suc, ◌+◌, cond, false, Some, List, [], ◌∷◌, length, map, refl, sym, ap, subst, ◌∙◌, arith}
 use Rattle.std.specs.Prelude.{slice_get, count_by}
 use Rattle.std.proofs.lemmas.List.{length-map}
 use Rattle.std.proofs.lemmas.List.Sums.{sum_by-cons}
@@ -78,19 +78,19 @@ record IsPlainAt (k : ℕ) (ls : List Label) (i : ℕ) : Type 0 where
 
 plain_at : (k : ℕ) (ls : List Label) (i : ℕ) → IsOneOf i (plain_places k ls) → IsPlainAt k ls i
 plain_at k [] i h = absurd h
-plain_at k (l ∷ ls) i h = go l h
+plain_at k (l ∷ ls) i h = go (λ m. plain_at (suc k) ls i m) l h
   where
     later : (l : Label) → IsPlainAt (suc k) ls i → IsPlainAt k (l ∷ ls) i
     later l w = record { place = suc w.place; is = (let e = w.is in omega arith); label = w.label; at = w.at; plain = w.plain }
 
-    go : (l : Label) → IsOneOf i (plain_place l k (plain_places (suc k) ls)) → IsPlainAt k (l ∷ ls) i
-    go (Numbered n) m = later (Numbered n) (plain_at (suc k) ls i m)
-    go (Plain p) (inl e) = record { place = 0; is = omega arith; label = Plain p; at = refl; plain = tt }
-    go (Plain p) (inr m) = later (Plain p) (plain_at (suc k) ls i m)
+    go : (IsOneOf i (plain_places (suc k) ls) → IsPlainAt (suc k) ls i) → (l : Label) → IsOneOf i (plain_place l k (plain_places (suc k) ls)) → IsPlainAt k (l ∷ ls) i
+    go more (Numbered n) m = later (Numbered n) (more m)
+    go more (Plain p) (inl e) = record { place = 0; is = omega arith; label = Plain p; at = refl; plain = tt }
+    go more (Plain p) (inr m) = later (Plain p) (more m)
 
 at_plain : (k : ℕ) (ls : List Label) (j i : ℕ) (l : Label) → i ≡ k + j → slice_get ls j ≡ Some l → IsPlain l → IsOneOf i (plain_places k ls)
-at_plain k [] j i l e at plain = let lt = slice_get_within {X = Label} [] j at in absurd (omega arith)
-at_plain k (m ∷ ls) zero i l e at plain = go m (subst IsPlain (sym (same_Some at)) plain)
+at_plain k [] j i l e at plain = let lt = slice_get_within [] j l at in absurd (omega arith)
+at_plain k (m ∷ ls) zero i l e at plain = go m (subst IsPlain (sym (same_Some _ _ at)) plain)
   where
     go : (m : Label) → IsPlain m → IsOneOf i (plain_place m k (plain_places (suc k) ls))
     go (Numbered n) p = absurd p
@@ -125,7 +125,7 @@ plain_count g tree s labels valid labelled unused = record {
     sound i w =
         let same : w.place ≡ i = (let e = w.is in omega arith) in
         let at : LabelAt labels i w.label = subst (λ j. LabelAt labels j w.label) same w.at in
-        let lt = slice_get_within labels i at in
+        let lt = slice_get_within labels i w.label at in
         let l = labelled.long in
         let n = valid_node g tree i valid (omega arith) in
         (n.0, n.1, (plain_are_untabled g tree s labels i n.0 w.label labelled unused n.1 at).0 w.plain)
@@ -160,8 +160,8 @@ one_tree g tree n c = record {
     sound p (i, m, e) = subst (IsUntabledPlace g (tree ∷ [])) e (tree, refl, (c.exactly i).0 (contains c.list i m))
 
     whole : (j i : ℕ) (t : Tree) → slice_get (tree ∷ []) j ≡ Some t → IsUntabledAt g t i → IsOneOf (j, i) (map in_tree c.list)
-    whole zero i t get un = in_map in_tree c.list i (is_one_of c.list i ((c.exactly i).1 (subst (λ (s : Tree). IsUntabledAt g s i) (sym (same_Some get)) un)))
-    whole (suc j) i t get un = let lt = slice_get_within {X = Tree} [] j get in absurd (omega arith)
+    whole zero i t get un = in_map in_tree c.list i (is_one_of c.list i ((c.exactly i).1 (subst (λ (s : Tree). IsUntabledAt g s i) (sym (same_Some _ _ get)) un)))
+    whole (suc j) i t get un = let lt = slice_get_within [] j t get in absurd (omega arith)
 
 pub plain_counts_untabled : PlainCountsUntabled
 plain_counts_untabled g tree s n valid plain unused =

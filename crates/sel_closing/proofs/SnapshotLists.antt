@@ -1,12 +1,11 @@
 -- The states and transitions that words say, as the lists of a snapshot.
-use Rattle.std.proofs.Common.{◌≡◌, ◌≢◌, ◌⊎◌, inl, inr, ℕ, zero, suc, ◌+◌, ◌*◌, ◌<◌, ◌≤◌, Bool, true, false, cond, ◌==◌, List, [], ◌∷◌, length, map, refl, sym, ap, subst, ◌∙◌, arith, eq-eqb, ne_eqb}
+use Rattle.std.proofs.Common.{◌≡◌, ◌≢◌, ◌⊎◌, inl, inr, ℕ, zero, suc, ◌+◌, ◌<◌, ◌≤◌, Bool, true, false, cond, ◌==◌, List, [], ◌∷◌, length, map, refl, sym, ap, subst, ◌∙◌, arith, eq-eqb, ne_eqb}
 use Rattle.std.specs.Prelude.{slice_index}
 use mathlib.Core.Logic.{dite}
 use native.Mathlib.Decide.{ℕ_discrete}
-use Rattle.sel_items.specs.declared.items.Items.{Items}
 use Rattle.sel_items.specs.Follows.{NodeKey, key_of as node_key_of}
 use Rattle.sel_law.specs.declared.Setting.{Setting}
-use Rattle.sel_law.specs.Words.{In, read, row_at, content, Published, KidsPublished, EachKid, by_kids, class_by, key_of, kids_of, operator_of, left_of, right_of, items_of}
+use Rattle.sel_law.specs.Words.{read, row_at, content, Published, KidsPublished, EachKid, by_kids, class_by, key_of, kids_of, operator_of, left_of, right_of, items_of}
 use Rattle.sel_rows.specs.declared.snapshot.State.{State}
 use Rattle.sel_rows.specs.declared.snapshot.Transition.{Transition}
 use Rattle.sel_rows.specs.Closed.{state_items, row_word, row_key}
@@ -14,7 +13,7 @@ use Rattle.sel_rows.specs.Snapshots.{IsAscending, key_by, transition_by, transit
 use Rattle.sel_count.specs.Counts.{AllDiffer}
 use Rattle.sel_count.specs.ClosedTables.{ClosedState, ClosedTransition}
 use Rattle.sel_count.proofs.Elements.{IsOneOf, is_one_of}
-use Rattle.sel_closing.specs.SnapshotTables.{items_by_number, key_by_items, closed_state, closed_transition}
+use Rattle.sel_closing.specs.SnapshotTables.{items_by_number, key_by_items, closed_state}
 use Rattle.sel_closing.proofs.Members.{one_of_in, out_map}
 
 module _ (z : Setting) (ws : List ℕ) where
@@ -31,11 +30,11 @@ module _ (z : Setting) (ws : List ℕ) where
   looked_up [] n s said h e = absurd h
   looked_up (r ∷ rs) n s said h e = dite (ℕ_discrete r.number n)
       (λ same. ap (λ b. cond b r.items (items_by_number rs n)) (eq-eqb r.number n same) ∙ ((said r (inl refl)).items ∙ ap (state_items z ws) same))
-      (λ apart. ap (λ b. cond b r.items (items_by_number rs n)) (ne_eqb r.number n apart) ∙ go apart h)
+      (λ apart. ap (λ b. cond b r.items (items_by_number rs n)) (ne_eqb r.number n apart) ∙ go apart (λ m. looked_up rs n s (λ t i. said t (inr i)) m e) h)
     where
-      go : r.number ≢ n → (r ≡ s) ⊎ IsOneOf s rs → items_by_number rs n ≡ state_items z ws n
-      go apart (inl q) = absurd (apart (ap (λ (t : State). t.number) q ∙ e))
-      go apart (inr m) = looked_up rs n s (λ t i. said t (inr i)) m e
+      go : r.number ≢ n → (IsOneOf s rs → items_by_number rs n ≡ state_items z ws n) → (r ≡ s) ⊎ IsOneOf s rs → items_by_number rs n ≡ state_items z ws n
+      go apart more (inl q) = absurd (apart (ap (λ (t : State). t.number) q ∙ e))
+      go apart more (inr m) = more m
 
   -- different numbers have different item sets, so the states' item sets differ
   pub sets_differ : (ss : List State) → IsAscending ss → AreSaid ss → ((m n : ℕ) → Published z ws m → Published z ws n → state_items z ws m ≡ state_items z ws n → m ≡ n)
@@ -88,14 +87,14 @@ module _ (z : Setting) (ws : List ℕ) where
   placed zero q b x e h = absurd h
   placed (suc n) q b x e h = dite (ℕ_discrete (slice_index ws b) 0)
       (λ free. later (placed n (q + 1) (b + 1) x (omega arith) (subst (λ c. IsOneOf x (cond c (those (b + 1) n) (transition_by (slice_index ws b) ∷ those (b + 1) n))) (eq-eqb (slice_index ws b) 0 free) h)))
-      (λ taken. here taken (subst (λ c. IsOneOf x (cond c (those (b + 1) n) (transition_by (slice_index ws b) ∷ those (b + 1) n))) (ne_eqb (slice_index ws b) 0 taken) h))
+      (λ taken. here (λ m. placed n (q + 1) (b + 1) x (omega arith) m) taken (subst (λ c. IsOneOf x (cond c (those (b + 1) n) (transition_by (slice_index ws b) ∷ those (b + 1) n))) (ne_eqb (slice_index ws b) 0 taken) h))
     where
       later : IsPlaced (q + 1) n x → IsPlaced q (suc n) x
       later w = record { place = w.place; from = (let l = w.from in omega arith); before = (let l = w.before in omega arith); word = w.word; is = w.is }
 
-      here : slice_index ws b ≢ 0 → (transition_by (slice_index ws b) ≡ x) ⊎ IsOneOf x (those (b + 1) n) → IsPlaced q (suc n) x
-      here taken (inl s) = record { place = q; from = omega arith; before = omega arith; word = (λ o. taken (word_here q b e ∙ o)); is = sym s ∙ ap transition_by (word_here q b e) }
-      here taken (inr m) = later (placed n (q + 1) (b + 1) x (omega arith) m)
+      here : (IsOneOf x (those (b + 1) n) → IsPlaced (q + 1) n x) → slice_index ws b ≢ 0 → (transition_by (slice_index ws b) ≡ x) ⊎ IsOneOf x (those (b + 1) n) → IsPlaced q (suc n) x
+      here more taken (inl s) = record { place = q; from = omega arith; before = omega arith; word = (λ o. taken (word_here q b e ∙ o)); is = sym s ∙ ap transition_by (word_here q b e) }
+      here more taken (inr m) = later (more m)
 
   pub there : (n q b k : ℕ) → b ≡ row_at z q → q ≤ k → k < q + n → row_word z ws k ≢ 0 → IsOneOf (transition_by (row_word z ws k)) (those b n)
   there zero q b k e l l' o = absurd (omega arith)
@@ -123,18 +122,17 @@ module _ (z : Setting) (ws : List ℕ) where
       ap (λ c. length (cond c (those (b + 1) n) (transition_by (slice_index ws b) ∷ those (b + 1) n))) (ne_eqb (slice_index ws b) 0 (λ f. h q (omega arith) (sym (word_here q b e) ∙ f)))
       ∙ ap suc (all n (q + 1) (b + 1) (omega arith) (λ k l. h k (omega arith)))
 
+  -- the keys of closed transitions
+  abbrev key_list : (Transition → ClosedTransition) → List Transition → List NodeKey
+  key_list g ts = map (λ (x : ClosedTransition). x.key) (map g ts)
+
   -- the keys by the states, of those whose key f gives, differ where different places have different ones
   pub keys_differ : (f : Transition → NodeKey) (n q b : ℕ) → b ≡ row_at z q
       → ((k l : ℕ) → k < q + n → l < q + n → row_word z ws k ≢ 0 → row_word z ws l ≢ 0 → f (transition_by (row_word z ws k)) ≡ f (transition_by (row_word z ws l)) → k ≡ l)
       → (g : Transition → ClosedTransition) → ((x : Transition) → (g x).key ≡ f x) → AllDiffer (map (λ (x : ClosedTransition). x.key) (map g (those b n)))
   keys_differ f zero q b e d g is = tt
-  keys_differ f (suc n) q b e d g is = dite (ℕ_discrete (slice_index ws b) 0)
-      (λ free. subst (λ c. AllDiffer (map (λ (x : ClosedTransition). x.key) (map g (cond c (those (b + 1) n) (transition_by (slice_index ws b) ∷ those (b + 1) n))))) (sym (eq-eqb (slice_index ws b) 0 free)) more)
-      (λ taken. subst (λ c. AllDiffer (map (λ (x : ClosedTransition). x.key) (map g (cond c (those (b + 1) n) (transition_by (slice_index ws b) ∷ those (b + 1) n))))) (sym (ne_eqb (slice_index ws b) 0 taken)) ((λ c. none taken (out_map (λ (x : ClosedTransition). x.key) (map g (those (b + 1) n)) (g (transition_by (slice_index ws b))).key (is_one_of (map (λ (x : ClosedTransition). x.key) (map g (those (b + 1) n))) (g (transition_by (slice_index ws b))).key c))), more))
+  keys_differ f (suc n) q b e d g is = go (keys_differ f n (q + 1) (b + 1) (omega arith) (λ k l a c h i s. d k l (omega arith) (omega arith) h i s) g is)
     where
-      more : AllDiffer (map (λ (x : ClosedTransition). x.key) (map g (those (b + 1) n)))
-      more = keys_differ f n (q + 1) (b + 1) (omega arith) (λ k l a c h i s. d k l (omega arith) (omega arith) h i s) g is
-
       apart : slice_index ws b ≢ 0 → (x : Transition) → IsPlaced (q + 1) n x → f x ≡ f (transition_by (slice_index ws b)) → ⊥
       apart taken x w s =
           let l = w.from in
@@ -147,3 +145,14 @@ module _ (z : Setting) (ws : List ℕ) where
       none taken (x, m, s) =
           let r = out_map g (those (b + 1) n) x m in
           apart taken r.0 (placed n (q + 1) (b + 1) r.0 (omega arith) r.1) (sym (is r.0) ∙ (ap (λ (y : ClosedTransition). y.key) r.2 ∙ (s ∙ is (transition_by (slice_index ws b)))))
+
+      here : slice_index ws b ≢ 0 → AllDiffer (key_list g (those (b + 1) n)) → AllDiffer (key_list g (transition_by (slice_index ws b) ∷ those (b + 1) n))
+      here taken more = (
+        (λ c. none taken (out_map (λ (x : ClosedTransition). x.key) (map g (those (b + 1) n)) (g (transition_by (slice_index ws b))).key (is_one_of (key_list g (those (b + 1) n)) (g (transition_by (slice_index ws b))).key c))),
+        more,
+      )
+
+      go : AllDiffer (key_list g (those (b + 1) n)) → AllDiffer (key_list g (cond (slice_index ws b == 0) (those (b + 1) n) (transition_by (slice_index ws b) ∷ those (b + 1) n)))
+      go more = dite (ℕ_discrete (slice_index ws b) 0)
+          (λ free. subst (λ c. AllDiffer (key_list g (cond c (those (b + 1) n) (transition_by (slice_index ws b) ∷ those (b + 1) n)))) (sym (eq-eqb (slice_index ws b) 0 free)) more)
+          (λ taken. subst (λ c. AllDiffer (key_list g (cond c (those (b + 1) n) (transition_by (slice_index ws b) ∷ those (b + 1) n)))) (sym (ne_eqb (slice_index ws b) 0 taken)) (here taken more))

@@ -1,6 +1,8 @@
 //! The end of a table.
 ghost use Rattle.std.specs.Prelude.{◌≡◌, IfOk};
+ghost use Rattle.std.specs.List.{list_any};
 ghost use Rattle.sel_normal.specs.NormalForms.{NormalForm};
+ghost use Rattle.sel_rows.specs.declared.part.PassPart.{PassPart as AnyPart};
 ghost use Rattle.sel_rows.specs.Parts.{seats_of, IsSettingOf};
 ghost use Rattle.sel_rows.specs.Tables.{setting_of, ArePartsOf};
 ghost use Rattle.sel_closing.specs.Asking.{AreMarksOf};
@@ -18,13 +20,26 @@ pub struct Marks {
     pub row_full: bool,
 }
 
+fn any_used_up(parts: &[PassPart]) -> bool
+    ensures { result ≡ list_any (λ (part : AnyPart). part.used_up) parts.now }
+{
+    parts.iter().any(|part| part.used_up())
+}
+
+fn any_row_full(parts: &[PassPart]) -> bool
+    ensures { result ≡ list_any (λ (part : AnyPart). part.row_full) parts.now }
+{
+    parts.iter().any(|part| part.row_full())
+}
+
 /// The marks of the parts together.
 pub fn marks_of(parts: &[PassPart]) -> Marks
     ensures { AreMarksOf parts.now result.used_up result.row_full }
 {
-    let used_up = parts.iter().any(|part| part.used_up());
-    let row_full = parts.iter().any(|part| part.row_full());
-    Marks { used_up, row_full }
+    Marks {
+        used_up: any_used_up(parts),
+        row_full: any_row_full(parts),
+    }
 }
 
 /// The states and transitions of a closed table, and the marks of its parts.
