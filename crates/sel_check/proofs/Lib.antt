@@ -5,3 +5,13 @@ pub mod Examples
 pub mod Claiming
 pub mod Shown
 pub mod Certified
+pub mod Lists
+pub mod Cutting
+pub mod Decimals
+pub mod Spelling
+pub mod Reading
+pub mod Checking
+pub mod OneText
+pub mod OneAnswer
+pub mod Items
+pub mod TextExamples

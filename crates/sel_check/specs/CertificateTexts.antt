@@ -43,6 +43,11 @@ ended lines = flat_map (λ line. line ++ codes "\n") lines
 abbrev pub certificate_text : ℕ → TreeCertificate → List ℕ
 certificate_text number c = ended (certificate_lines number c)
 
+-- the texts of certificates one behind the other, the trees being numbered from this number on
+abbrev pub certificates_text : ℕ → List TreeCertificate → List ℕ
+certificates_text number [] = []
+certificates_text number (c ∷ cs) = certificate_text number c ++ certificates_text (number + 1) cs
+
 -- neither number of a claim is below 0 or above the greatest
 abbrev pub HasSmallClaims : NodeCosts → Type 0
 HasSmallClaims costs = (i n : ℕ) (c : Cost) → cost_at costs i n ≡ Some c → IsSmall greatest_claim c

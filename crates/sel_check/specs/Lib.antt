@@ -1,5 +1,9 @@
 pub mod Certificates
 pub mod Laws
 pub mod CertificateTexts
+pub mod WantedLines
 pub mod Bounding
 pub mod TreeChecks
+pub mod Checks
+pub mod CheckLaws
+pub mod LineReading

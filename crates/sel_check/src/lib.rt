@@ -3,12 +3,19 @@
 
 mod bounds;
 mod certificate;
+mod checker;
+mod entries;
+pub mod kinds;
 pub mod laws;
+mod lines;
+mod numbers;
+mod parts;
 mod print;
 mod refusal;
 mod tree_check;
 
 pub use certificate::{TreeCertificate, certify};
+pub use checker::check;
 pub use print::print_certificate;
-pub use refusal::{TreeFault, TreeRefusal};
+pub use refusal::{CheckFault, CheckRefusal, TreeFault, TreeRefusal};
 pub use tree_check::check_tree;

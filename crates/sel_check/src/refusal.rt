@@ -29,3 +29,27 @@ impl From<NoMemory> for TreeRefusal {
         TreeRefusal::NoMemory
     }
 }
+
+/// The first fault of a text of certificates: its kind (`kinds` has their names), and its line from 1.
+#[derive(Clone, Copy, Debug, PartialEq, Eq)]
+pub struct CheckFault {
+    pub kind: u8,
+    pub line: u32,
+}
+
+/// Why a text of certificates proves nothing.
+#[derive(Clone, Copy, Debug, PartialEq, Eq)]
+pub enum CheckRefusal {
+    Fault(CheckFault),
+    NoMemory,
+}
+
+impl From<NoMemory> for CheckRefusal {
+    ghost use Rattle.sel_check.specs.declared.refusal.CheckRefusal.TheVariants as refusal;
+
+    ghost from_gives = { λ _ e. e ≡ refusal.NoMemory };
+
+    fn from(_: NoMemory) -> CheckRefusal {
+        CheckRefusal::NoMemory
+    }
+}

@@ -1,0 +1,68 @@
+-- Numbers in shortest decimals, read and written.
+use Rattle.std.proofs.Common.{◌≡◌, ℕ, zero, suc, ◌+◌, ◌≤◌, ◌<◌, ◌^◌, ◌==◌, ◌×◌, Bool, true, false, List, [], ◌∷◌, All, length, get_or, refl, ap, sym, ◌∙◌, subst, arith, decimal}
+use Rattle.std.specs.List.{prefix_len}
+use Rattle.std.specs.Char.{is_ascii_digit, digit_value}
+use Rattle.std.specs.Int.{IsInRange}
+use Rattle.std.specs.Str.Parse.{digits_value, AllDigits}
+use Rattle.std.proofs.lemmas.Fmt.{decimal_digit, decimal_nonempty, first_decimal, digits_decimal, digits_value-decimal, decimal-digits_value}
+use Rattle.std.proofs.lemmas.List.Elements.{All-cons, All-nil}
+use Rattle.std.proofs.lemmas.Str.{digit_value_digit}
+use Rattle.std.proofs.lemmas.Str.Parse.{IsNumeralModel, digit_from_value}
+use Rattle.sel_check.specs.LineReading.{IsShortest}
+use Rattle.sel_check.proofs.Cutting.{Lacks}
+
+pub numerals : IsNumeralModel (AllDigits 10) (digits_value 10)
+numerals = record { to = λ ds h. h; from = λ ds h. h; same = λ ds h. refl }
+
+digit_small : (b : ℕ) → is_ascii_digit b ≡ true → digit_value b < 10
+digit_small b h = let r : IsInRange 48 57 b = grind arith in omega (arith, digit_value_digit b r, r)
+
+-- where all bytes at the front are digits, all are
+pub digits_all : (bytes : List ℕ) → prefix_len is_ascii_digit bytes ≡ length bytes → AllDigits 10 bytes
+digits_all [] e = tt
+digits_all (b ∷ bytes) e = go (is_ascii_digit b) refl
+  where
+    yes : is_ascii_digit b ≡ true → prefix_len is_ascii_digit (b ∷ bytes) ≡ 1 + prefix_len is_ascii_digit bytes
+    yes h = rw h refl
+
+    no : is_ascii_digit b ≡ false → prefix_len is_ascii_digit (b ∷ bytes) ≡ 0
+    no h = rw h refl
+
+    go : (x : Bool) → is_ascii_digit b ≡ x → AllDigits 10 (b ∷ bytes)
+    go true h = (digit_small b h, digits_all bytes (omega (arith, yes h, e)))
+    go false h = absurd (omega (arith, no h, e))
+
+pub all_digits : (bytes : List ℕ) → AllDigits 10 bytes → prefix_len is_ascii_digit bytes ≡ length bytes
+all_digits [] h = refl
+all_digits (b ∷ bytes) h =
+    let r : IsInRange 48 57 b = digit_from_value b h.0 in
+    let d : is_ascii_digit b ≡ true = grind arith in
+    let more : prefix_len is_ascii_digit (b ∷ bytes) ≡ 1 + prefix_len is_ascii_digit bytes = rw d refl in
+    omega (arith, more, all_digits bytes h.1)
+
+naught_alone : (bytes : List ℕ) → bytes ≡ 48 ∷ [] → length bytes ≡ 1
+naught_alone bytes e = ap length e
+
+pub shortest : (n : ℕ) → n < 2 ^ 64 → IsShortest (decimal n)
+shortest n small = record { digits = digits_decimal numerals n small; some = decimal_nonempty n small; lead = lead n small }
+  where
+    lead : (n : ℕ) → n < 2 ^ 64 → get_or (decimal n) 0 0 ≡ 48 → length (decimal n) ≡ 1
+    lead zero small e = naught_alone (decimal 0) (decimal_digit 0 (omega arith))
+    lead (suc n) small e = absurd (omega (arith, first_decimal (suc n) (omega arith) small, e))
+
+pub value_spells : (bytes : List ℕ) (n : ℕ) → IsShortest bytes → n ≡ digits_value 10 bytes → n < 2 ^ 64 → bytes ≡ decimal n
+value_spells bytes n h e small = sym (decimal-digits_value numerals bytes h.digits h.some h.lead (omega (arith, e, small))) ∙ ap decimal (sym e)
+
+pub value_is : (bytes : List ℕ) (n : ℕ) → n < 2 ^ 64 → bytes ≡ decimal n → digits_value 10 bytes ≡ n
+value_is bytes n small e = ap (digits_value 10) e ∙ digits_value-decimal numerals n small
+
+-- a decimal has only digits
+lacks : (c : ℕ) → c < 48 → (bytes : List ℕ) → AllDigits 10 bytes → Lacks c bytes
+lacks c low [] h = All-nil (λ b. (b == c) ≡ false)
+lacks c low (b ∷ bytes) h = All-cons (λ b. (b == c) ≡ false) b bytes (let r = digit_from_value b h.0 in other b c low r.0) (lacks c low bytes h.1)
+  where
+    other : (b c : ℕ) → c < 48 → 48 ≤ b → (b == c) ≡ false
+    other b c low high = grind arith
+
+pub decimal_lacks : (c n : ℕ) → c < 48 → n < 2 ^ 64 → Lacks c (decimal n)
+decimal_lacks c n low small = lacks c low (decimal n) (digits_decimal numerals n small)

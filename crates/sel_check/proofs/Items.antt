@@ -1,0 +1,107 @@
+-- Items that are read one by one from a text that is cut at separators.
+use Rattle.std.proofs.Common.{◌≡◌, ℕ, zero, suc, ◌+◌, ◌≤◌, ◌<◌, ◌^◌, ◌×◌, List, [], ◌∷◌, ◌++◌, Option, Some, None, All, length, map, refl, ap, sym, ◌∙◌, subst, arith, decimal, append_assoc, append-nil, length-append}
+use Rattle.std.specs.Borrow.{Bor}
+use Rattle.std.proofs.lemmas.List.{length-map, map-append}
+use Rattle.std.proofs.lemmas.List.Elements.{All-nil, All-push}
+use Rattle.sel_grammar.specs.Costs.{Cost}
+use Rattle.sel_check.specs.CertificateTexts.{entry_text, row_line}
+use Rattle.sel_check.specs.LineReading.{parts_of, Lacks, with_rest, IsReadAs, AreNumbers, numbers_text}
+use Rattle.sel_check.specs.WantedLines.{IsEntry, IsRow}
+use Rattle.sel_check.proofs.Cutting.{cut_parts, cut_shorter, parts_behind, part_of_items, parts_some}
+use Rattle.sel_check.proofs.Spelling.{row_parts, parts_row, numbers_parts, parts_numbers}
+
+-- the items of the parts before the rest
+abbrev pub ReadSoFar : {A : Type 0} → (A → List ℕ) → (A → Type 0) → List ℕ → List ℕ → List A → Type 0
+ReadSoFar text IsSuch bytes rest items = (parts_of 32 bytes ≡ map text items ++ parts_of 32 rest) × All IsSuch items
+
+module _ {A : Type 0} (text : A → List ℕ) (IsSuch : A → Type 0) where
+  pub read_none : (bytes : List ℕ) → ReadSoFar text IsSuch bytes bytes []
+  read_none bytes = (refl, All-nil IsSuch)
+
+  one_more : (bytes : List ℕ) (items : List A) (a : A) (part : List ℕ) (others : List (List ℕ)) → parts_of 32 bytes ≡ map text items ++ (part ∷ others) → part ≡ text a → parts_of 32 bytes ≡ map text (items ++ (a ∷ [])) ++ others
+  one_more bytes items a part others e is =
+      e ∙ ap (λ p. map text items ++ (p ∷ others)) is ∙ sym (append_assoc (map text items) (text a ∷ []) others) ∙ ap (λ t. t ++ others) (sym (map-append text items (a ∷ [])))
+
+  module _ (bytes rest part : List ℕ) (items : List A) (behind : Option (Bor (List ℕ))) (lacks : Lacks 32 part) (whole : rest ≡ part ++ with_rest 32 behind) (h : ReadSoFar text IsSuch bytes rest items) where
+    parts : parts_of 32 bytes ≡ map text items ++ (part ∷ parts_behind 32 behind)
+    parts = h.0 ∙ ap (λ p. map text items ++ p) (cut_parts 32 rest part behind lacks whole)
+
+    pub read_more : (a : A) (items' : List A) → part ≡ text a → IsSuch a → items' ≡ items ++ (a ∷ []) → (parts_of 32 bytes ≡ map text items' ++ parts_behind 32 behind) × All IsSuch items'
+    read_more a items' is such e =
+        (one_more bytes items a part (parts_behind 32 behind) parts is ∙ ap (λ xs. map text xs ++ parts_behind 32 behind) (sym e), subst (All IsSuch) (sym e) (All-push IsSuch items a h.1 such))
+
+    pub read_wrong : ((a : A) → IsSuch a → part ≡ text a → ⊥) → (all : List A) → All IsSuch all → parts_of 32 bytes ≡ map text all → ⊥
+    read_wrong no all such e = let (a, is, spelled) = part_of_items text 32 IsSuch all (map text items) (parts_behind 32 behind) part such (sym e ∙ parts) in no a is spelled
+
+-- rows
+abbrev pub RowSoFar : List ℕ → List ℕ → ℕ → List (Option Cost) → Type 0
+RowSoFar line rest width row = ReadSoFar entry_text IsEntry line rest row × (length row < width)
+
+module _ (line rest part : List ℕ) (width : ℕ) (row : List (Option Cost)) (behind : Option (Bor (List ℕ))) (lacks : Lacks 32 part) (whole : rest ≡ part ++ with_rest 32 behind) (some : 0 < width) (h : RowSoFar line rest width row) where
+  pub row_wrong : ((a : Option Cost) → IsEntry a → part ≡ entry_text a → ⊥) → (all : List (Option Cost)) → IsRow width all → line ≡ row_line all → ⊥
+  row_wrong no all is e = read_wrong entry_text IsEntry line rest part row behind lacks whole h.0 no all is.entries (row_parts line width all some is e)
+
+  module _ (a : Option Cost) (row' : List (Option Cost)) (is : part ≡ entry_text a) (such : IsEntry a) (more : row' ≡ row ++ (a ∷ [])) where
+    read : (parts_of 32 line ≡ map entry_text row' ++ parts_behind 32 behind) × All IsEntry row'
+    read = read_more entry_text IsEntry line rest part row behind lacks whole h.0 a row' is such more
+
+    count : length row' ≤ width
+    count = let few = h.1 in omega (arith, few, ap length more, length-append row (a ∷ []))
+
+    -- the last entry
+    pub row_read : behind ≡ None → length row' ≡ width → IsRow width row' × (line ≡ row_line row')
+    row_read none full =
+        (record { width_is = full; entries = read.1 }, parts_row line row' (omega (arith, full, some)) (read.0 ∙ ap (λ b. map entry_text row' ++ parts_behind 32 b) none ∙ append-nil (map entry_text row')))
+
+    pub row_short : behind ≡ None → (length row' ≡ width → ⊥) → (all : List (Option Cost)) → IsRow width all → line ≡ row_line all → ⊥
+    row_short none short all is' e =
+        let p = sym (row_parts line width all some is' e) ∙ read.0 ∙ ap (λ b. map entry_text row' ++ parts_behind 32 b) none ∙ append-nil (map entry_text row') in
+        short (omega (arith, ap length p, length-map all entry_text, length-map row' entry_text, is'.width_is))
+
+    pub row_long : (r : Bor (List ℕ)) → behind ≡ Some r → length row' ≡ width → (all : List (Option Cost)) → IsRow width all → line ≡ row_line all → ⊥
+    row_long r there full all is' e = go (parts_of 32 r.now) refl
+      where
+        p : map entry_text all ≡ map entry_text row' ++ parts_of 32 r.now
+        p = sym (row_parts line width all some is' e) ∙ read.0 ∙ ap (λ b. map entry_text row' ++ parts_behind 32 b) there
+
+        go : (ps : List (List ℕ)) → parts_of 32 r.now ≡ ps → ⊥
+        go [] q = parts_some 32 r.now q
+        go (x ∷ ps) q = absurd (omega (arith, ap length p, length-append (map entry_text row') (parts_of 32 r.now), ap length q, length-map all entry_text, length-map row' entry_text, is'.width_is, full))
+
+    pub row_next : (r : Bor (List ℕ)) → behind ≡ Some r → (length row' ≡ width → ⊥) → RowSoFar line r.now width row'
+    row_next r there short = ((read.0 ∙ ap (λ b. map entry_text row' ++ parts_behind 32 b) there, read.1), less (length row') width count short)
+      where
+        less : (a b : ℕ) → a ≤ b → (a ≡ b → ⊥) → a < b
+        less a b h k = grind arith
+
+  pub rest_shorter : (r : Bor (List ℕ)) → behind ≡ Some r → length r.now < length rest
+  rest_shorter r there = cut_shorter 32 rest part r.now (whole ∙ ap (λ b. part ++ with_rest 32 b) there)
+
+-- numbers of rules
+abbrev pub Small : ℕ → Type 0
+Small r = r < 2 ^ 16
+
+abbrev pub NumbersSoFar : List ℕ → List ℕ → List ℕ → Type 0
+NumbersSoFar bytes rest numbers = ReadSoFar decimal Small bytes rest numbers × (length numbers + length rest ≤ length bytes)
+
+module _ (bytes rest part numbers : List ℕ) (behind : Option (Bor (List ℕ))) (lacks : Lacks 32 part) (whole : rest ≡ part ++ with_rest 32 behind) (h : NumbersSoFar bytes rest numbers) where
+  pub number_wrong : ((n : ℕ) → n ≤ 65535 → part ≡ decimal n → ⊥) → (all : List ℕ) → AreNumbers all → bytes ≡ numbers_text all → ⊥
+  number_wrong no all is e = read_wrong decimal Small bytes rest part numbers behind lacks whole h.0 (λ a small spelled. no a (omega (arith, small)) spelled) all is.1 (numbers_parts bytes all is e)
+
+  module _ (a : ℕ) (numbers' : List ℕ) (is : part ≡ decimal a) (such : a ≤ 65535) (more : numbers' ≡ numbers ++ (a ∷ [])) where
+    read_numbers : (parts_of 32 bytes ≡ map decimal numbers' ++ parts_behind 32 behind) × All Small numbers'
+    read_numbers = read_more decimal Small bytes rest part numbers behind lacks whole h.0 a numbers' is (omega (arith, such)) more
+
+    pub numbers_read : behind ≡ None → AreNumbers numbers' × (bytes ≡ numbers_text numbers')
+    numbers_read none =
+        let some : 0 < length numbers' = omega (arith, ap length more, length-append numbers (a ∷ [])) in
+        ((some, read_numbers.1), parts_numbers bytes numbers' some (read_numbers.0 ∙ ap (λ b. map decimal numbers' ++ parts_behind 32 b) none ∙ append-nil (map decimal numbers')))
+
+    pub numbers_few : length numbers' ≤ length bytes + 1
+    numbers_few = let few = h.1 in omega (arith, few, ap length more, length-append numbers (a ∷ []))
+
+    pub numbers_next : (r : Bor (List ℕ)) → behind ≡ Some r → NumbersSoFar bytes r.now numbers'
+    numbers_next r there =
+        let few = h.1 in
+        let less = cut_shorter 32 rest part r.now (whole ∙ ap (λ b. part ++ with_rest 32 b) there) in
+        ((read_numbers.0 ∙ ap (λ b. map decimal numbers' ++ parts_behind 32 b) there, read_numbers.1), omega (arith, few, less, ap length more, length-append numbers (a ∷ [])))
