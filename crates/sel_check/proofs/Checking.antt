@@ -1,5 +1,5 @@
 -- The loop over the trees of a forest.
-use Rattle.std.proofs.Common.{◌≡◌, ℕ, zero, suc, ◌+◌, ◌≤◌, ◌<◌, ◌^◌, ◌⊎◌, inl, inr, ◌×◌, List, [], ◌∷◌, ◌++◌, Option, Some, None, length, take, drop, map, refl, ap, sym, ◌∙◌, subst, arith, append_assoc, append-nil, length-append, length-take, slice_get, slice_index_or}
+use Rattle.std.proofs.Common.{◌≡◌, ℕ, zero, suc, ◌+◌, ◌≤◌, ◌<◌, ◌^◌, ◌⊎◌, inl, inr, List, [], ◌∷◌, ◌++◌, Option, Some, None, length, take, drop, map, refl, ap, sym, ◌∙◌, subst, arith, append_assoc, append-nil, length-append, length-take, slice_get, slice_index_or, nat_eq, true, false}
 use Rattle.std.proofs.lemmas.List.{take_all, length-map}
 use Rattle.std.proofs.lemmas.List.Sums.{sum_by_push, sum_by-cons}
 use Rattle.sel_grammar.specs.declared.grammar.Grammar.{Grammar}
@@ -24,7 +24,9 @@ use Rattle.sel_check.specs.declared.refusal.TreeFault.TheVariants as fault
 use Rattle.sel_check.specs.Certificates.{claim, start_goal}
 use Rattle.sel_check.specs.CertificateTexts.{row_line, cover_line, tree_line, certificate_lines, certificate_text, certificates_text, ended}
 use Rattle.sel_check.specs.Laws.{IsLeastCost}
-use Rattle.sel_check.specs.TreeChecks.{ProvesCost, IsTreeFault, BreaksBound}
+use Rattle.sel_check.specs.TreeChecks.{ProvesCost, IsTreeFault, IsTreeRefusal, BreaksBound}
+use Rattle.sel_check.specs.declared.refusal.TreeRefusal.{TreeRefusal}
+use Rattle.sel_check.specs.declared.refusal.TreeRefusal.TheVariants as tree_refusal
 use Rattle.sel_check.specs.Checks.{IsFor, AreFor, Spells, AreProved, ProvesCosts, AreLeastCosts, lines_of_trees, placed, IsInside, IsFirstUnproved, IsProofFault, IsCheckFault, IsCheckRefusal, text_fault}
 use Rattle.sel_check.specs.LineReading.{Took, IsRefusedBehind, IsVerdict}
 use Rattle.sel_check.specs.WantedLines.{Wanted, AreLines, wanted_of_tree, wanted_lines, IsFormFault}
@@ -138,6 +140,22 @@ fault_inside g t c (fault.Bound node) h = go (cases node (length t.nodes))
     go (inr l) = absurd (h.broken (λ r rule s ts k at stands fit sum. absurd (let w = within t.nodes node s stands in omega (arith, w, l))))
 fault_inside g t c fault.Cover h = tt
 fault_inside g t c fault.Cost h = tt
+
+pub refusal_inside : (g : Grammar) (t : Tree) (c : TreeCertificate) (why : TreeRefusal) (broken : TreeFault) → IsTreeRefusal g t c why → why ≡ tree_refusal.Fault broken → IsInside t broken
+refusal_inside g t c why broken h is = fault_inside g t c broken (subst (IsTreeRefusal g t c) is h)
+
+pub refusal_faulty : (g : Grammar) (trees : List Tree) (cs : List TreeCertificate) (old : Verdict) (costs : List (Option Cost)) (t : Tree) (c : TreeCertificate) (lines : ℕ) (why : TreeRefusal) (broken : TreeFault) (found : CheckFault)
+    → old ≡ verdict.Proved costs → IsTreeRefusal g t c why → why ≡ tree_refusal.Fault broken → found ≡ placed lines t broken → lines ≡ lines_of_trees trees
+    → IsVerdict g trees cs old → IsVerdict g (trees ++ (t ∷ [])) (cs ++ (c ∷ [])) (verdict.Faulty found)
+refusal_faulty g trees cs old costs t c lines why broken found is h fault_is place count known = judged_faulty g trees cs old costs t c lines broken found is (subst (IsTreeRefusal g t c) fault_is h) place count known
+
+pub empty_of : (xs : List ℕ) → nat_eq (length xs) 0 ≡ true → xs ≡ []
+empty_of [] e = refl
+empty_of (x ∷ xs) e = cc
+
+pub not_empty : (xs : List ℕ) → nat_eq (length xs) 0 ≡ false → xs ≡ [] → ⊥
+not_empty [] e q = cc
+not_empty (x ∷ xs) e q = cc
 
 pub valid_tree : (g : Grammar) (forest : Forest) (k : ℕ) (t : Tree) → IsValidForest g forest → k < length forest.trees → t ≡ slice_index_or forest.trees k t → IsTree t
 valid_tree g forest k t valid lt is = let v = valid.trees k t (get_here forest.trees k t lt is) in (v.plain, v.postorder, v.small)

@@ -1,5 +1,5 @@
 -- Texts cut at separators, and put together from parts that lack them.
-use Rattle.std.proofs.Common.{◌≡◌, ℕ, zero, suc, ◌+◌, ◌≤◌, ◌<◌, ◌==◌, ◌×◌, Bool, true, false, List, [], ◌∷◌, ◌++◌, Option, Some, None, All, length, take, drop, map, flat_map, get_or, slice_index, refl, ap, sym, ◌∙◌, subst, arith, append-nil, append_assoc, take-append-drop, drop-cons, get_or-take, length-take, length-append, true≢false}
+use Rattle.std.proofs.Common.{◌≡◌, ℕ, zero, suc, ◌+◌, ◌≤◌, ◌<◌, ◌==◌, Bool, true, false, List, [], ◌∷◌, ◌++◌, Option, Some, None, All, length, take, drop, map, flat_map, get_or, slice_index, refl, ap, sym, ◌∙◌, subst, arith, append-nil, append_assoc, take-append-drop, drop-cons, get_or-take, length-take, length-append, true≢false}
 use Rattle.std.specs.List.{slice_split, join_with_byte}
 use Rattle.std.proofs.lemmas.List.Elements.{All-from_get_or, All-get_or, All-head, All-tail, All-cons, All-nil}
 use Rattle.std.proofs.lemmas.List.Splits.{slice_split_none, slice_split_at, join_with_byte-slice_split}
@@ -51,6 +51,9 @@ pub cut_parts : (c : ℕ) (bytes part : List ℕ) (rest : Option (Bor (List ℕ)
 cut_parts c bytes part None lacks e = ap (parts_of c) (e ∙ append-nil part) ∙ slice_split_none (λ b. b == c) part lacks
 cut_parts c bytes part (Some rest) lacks e = first_part_is c part rest.now bytes lacks e
 
+pub whole_lacks : (c : ℕ) (bytes part : List ℕ) (rest : Option (Bor (List ℕ))) → Lacks c part → bytes ≡ part ++ with_rest c rest → rest ≡ None → Lacks c bytes
+whole_lacks c bytes part rest lacks e none = subst (Lacks c) (sym (e ∙ ap (λ r. part ++ with_rest c r) none ∙ append-nil part)) lacks
+
 pub cut_shorter : (c : ℕ) (bytes part rest : List ℕ) → bytes ≡ part ++ (c ∷ rest) → length rest < length bytes
 cut_shorter c bytes part rest e = omega (arith, ap length e, length-append part (c ∷ rest))
 
@@ -66,7 +69,7 @@ pub separator_stands : (c : ℕ) (xs ys bytes : List ℕ) → Lacks c bytes → 
 separator_stands c xs ys bytes lacks e = go xs (subst (Lacks c) e lacks)
   where
     go : (xs : List ℕ) → Lacks c (xs ++ (c ∷ ys)) → ⊥
-    go [] h = let no = All-head (λ b. (b == c) ≡ false) c ys h in absurd (true≢false (sym (same c) ∙ no))
+    go [] h = let differs = All-head (λ b. (b == c) ≡ false) c ys h in absurd (true≢false (sym (same c) ∙ differs))
     go (x ∷ xs) h = go xs (All-tail (λ b. (b == c) ≡ false) x (xs ++ (c ∷ ys)) h)
 
 -- texts of items, with the separator between any two
@@ -91,5 +94,5 @@ module _ {A : Type 0} (text : A → List ℕ) (c : ℕ) where
   pub part_of_items : (IsSuch : A → Type 0) (items : List A) (xs ys : List (List ℕ)) (part : List ℕ) → All IsSuch items → map text items ≡ xs ++ (part ∷ ys) → (a : A) × IsSuch a × (part ≡ text a)
   part_of_items IsSuch [] [] ys part all e = cc
   part_of_items IsSuch [] (x ∷ xs) ys part all e = cc
-  part_of_items IsSuch (a ∷ as) [] ys part all e = (a, All-head IsSuch a as all, cc)
-  part_of_items IsSuch (a ∷ as) (x ∷ xs) ys part all e = part_of_items IsSuch as xs ys part (All-tail IsSuch a as all) cc
+  part_of_items IsSuch (a ∷ more) [] ys part all e = (a, All-head IsSuch a more all, cc)
+  part_of_items IsSuch (a ∷ more) (x ∷ xs) ys part all e = part_of_items IsSuch more xs ys part (All-tail IsSuch a more all) cc

@@ -1,5 +1,5 @@
 -- Numbers in shortest decimals, read and written.
-use Rattle.std.proofs.Common.{◌≡◌, ℕ, zero, suc, ◌+◌, ◌≤◌, ◌<◌, ◌^◌, ◌==◌, ◌×◌, Bool, true, false, List, [], ◌∷◌, All, length, get_or, refl, ap, sym, ◌∙◌, subst, arith, decimal}
+use Rattle.std.proofs.Common.{◌≡◌, ℕ, zero, suc, ◌+◌, ◌≤◌, ◌<◌, ◌^◌, ◌==◌, Bool, true, false, List, [], ◌∷◌, All, length, get_or, refl, ap, sym, ◌∙◌, subst, arith, decimal, slice_get, Option, Some, None, MatchOption}
 use Rattle.std.specs.List.{prefix_len}
 use Rattle.std.specs.Char.{is_ascii_digit, digit_value}
 use Rattle.std.specs.Int.{IsInRange}
@@ -8,8 +8,7 @@ use Rattle.std.proofs.lemmas.Fmt.{decimal_digit, decimal_nonempty, first_decimal
 use Rattle.std.proofs.lemmas.List.Elements.{All-cons, All-nil}
 use Rattle.std.proofs.lemmas.Str.{digit_value_digit}
 use Rattle.std.proofs.lemmas.Str.Parse.{IsNumeralModel, digit_from_value}
-use Rattle.sel_check.specs.LineReading.{IsShortest}
-use Rattle.sel_check.proofs.Cutting.{Lacks}
+use Rattle.sel_check.specs.LineReading.{IsShortest, Lacks}
 
 pub numerals : IsNumeralModel (AllDigits 10) (digits_value 10)
 numerals = record { to = λ ds h. h; from = λ ds h. h; same = λ ds h. refl }
@@ -20,17 +19,17 @@ digit_small b h = let r : IsInRange 48 57 b = grind arith in omega (arith, digit
 -- where all bytes at the front are digits, all are
 pub digits_all : (bytes : List ℕ) → prefix_len is_ascii_digit bytes ≡ length bytes → AllDigits 10 bytes
 digits_all [] e = tt
-digits_all (b ∷ bytes) e = go (is_ascii_digit b) refl
+digits_all (b ∷ bytes) e = go (is_ascii_digit b) refl (digits_all bytes)
   where
-    yes : is_ascii_digit b ≡ true → prefix_len is_ascii_digit (b ∷ bytes) ≡ 1 + prefix_len is_ascii_digit bytes
-    yes h = rw h refl
+    one_more : is_ascii_digit b ≡ true → prefix_len is_ascii_digit (b ∷ bytes) ≡ 1 + prefix_len is_ascii_digit bytes
+    one_more h = rw h refl
 
-    no : is_ascii_digit b ≡ false → prefix_len is_ascii_digit (b ∷ bytes) ≡ 0
-    no h = rw h refl
+    nothing : is_ascii_digit b ≡ false → prefix_len is_ascii_digit (b ∷ bytes) ≡ 0
+    nothing h = rw h refl
 
-    go : (x : Bool) → is_ascii_digit b ≡ x → AllDigits 10 (b ∷ bytes)
-    go true h = (digit_small b h, digits_all bytes (omega (arith, yes h, e)))
-    go false h = absurd (omega (arith, no h, e))
+    go : (x : Bool) → is_ascii_digit b ≡ x → (prefix_len is_ascii_digit bytes ≡ length bytes → AllDigits 10 bytes) → AllDigits 10 (b ∷ bytes)
+    go true h more = (digit_small b h, more (omega (arith, one_more h, e)))
+    go false h more = absurd (omega (arith, nothing h, e))
 
 pub all_digits : (bytes : List ℕ) → AllDigits 10 bytes → prefix_len is_ascii_digit bytes ≡ length bytes
 all_digits [] h = refl
@@ -66,3 +65,22 @@ lacks c low (b ∷ bytes) h = All-cons (λ b. (b == c) ≡ false) b bytes (let r
 
 pub decimal_lacks : (c n : ℕ) → c < 48 → n < 2 ^ 64 → Lacks c (decimal n)
 decimal_lacks c n low small = lacks c low (decimal n) (digits_decimal numerals n small)
+
+pub shortest_of : (bytes : List ℕ) (d : ℕ) → Some d ≡ slice_get bytes 0 → prefix_len is_ascii_digit bytes ≡ length bytes → (d ≡ 48 → length bytes ≡ 1) → IsShortest bytes
+shortest_of [] d e all lead = cc
+shortest_of (b ∷ bytes) d e all lead = let q : d ≡ b = cc in record { digits = digits_all (b ∷ bytes) all; some = omega arith; lead = λ h. lead (q ∙ h) }
+
+pub of_shortest : (bytes : List ℕ) → IsShortest bytes → prefix_len is_ascii_digit bytes ≡ length bytes
+of_shortest bytes h = all_digits bytes h.digits
+
+pub lead_of : (bytes : List ℕ) (d : ℕ) → Some d ≡ slice_get bytes 0 → IsShortest bytes → d ≡ 48 → length bytes ≡ 1
+lead_of [] d e h z = cc
+lead_of (b ∷ bytes) d e h z = let q : d ≡ b = cc in h.lead (sym q ∙ z)
+
+pub number_read : (bytes : List ℕ) (limit : ℕ) → limit < 2 ^ 64 → IsShortest bytes → (o : Option ℕ) → MatchOption o (limit < digits_value 10 bytes) (λ n. (n ≡ digits_value 10 bytes) × (n ≤ limit))
+    → MatchOption o ((n : ℕ) → n ≤ limit → bytes ≡ decimal n → ⊥) (λ n. (n ≤ limit) × (bytes ≡ decimal n))
+number_read bytes limit small h None above = λ n few e. absurd (omega (arith, above, few, value_is bytes n (omega arith) e))
+number_read bytes limit small h (Some n) (is, few) = (few, value_spells bytes n h is (omega arith))
+
+pub number_none : (bytes : List ℕ) (limit : ℕ) → limit < 2 ^ 64 → (IsShortest bytes → ⊥) → (n : ℕ) → n ≤ limit → bytes ≡ decimal n → ⊥
+number_none bytes limit small never n few e = never (subst IsShortest (sym e) (shortest n (omega arith)))

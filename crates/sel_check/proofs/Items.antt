@@ -1,5 +1,5 @@
 -- Items that are read one by one from a text that is cut at separators.
-use Rattle.std.proofs.Common.{◌≡◌, ℕ, zero, suc, ◌+◌, ◌≤◌, ◌<◌, ◌^◌, ◌×◌, List, [], ◌∷◌, ◌++◌, Option, Some, None, All, length, map, refl, ap, sym, ◌∙◌, subst, arith, decimal, append_assoc, append-nil, length-append}
+use Rattle.std.proofs.Common.{◌≡◌, ℕ, zero, suc, ◌+◌, ◌≤◌, ◌<◌, ◌^◌, List, [], ◌∷◌, ◌++◌, Option, Some, None, MatchOption, All, length, map, refl, ap, sym, ◌∙◌, subst, arith, decimal, append_assoc, append-nil, length-append}
 use Rattle.std.specs.Borrow.{Bor}
 use Rattle.std.proofs.lemmas.List.{length-map, map-append}
 use Rattle.std.proofs.lemmas.List.Elements.{All-nil, All-push}
@@ -31,7 +31,7 @@ module _ {A : Type 0} (text : A → List ℕ) (IsSuch : A → Type 0) where
         (one_more bytes items a part (parts_behind 32 behind) parts is ∙ ap (λ xs. map text xs ++ parts_behind 32 behind) (sym e), subst (All IsSuch) (sym e) (All-push IsSuch items a h.1 such))
 
     pub read_wrong : ((a : A) → IsSuch a → part ≡ text a → ⊥) → (all : List A) → All IsSuch all → parts_of 32 bytes ≡ map text all → ⊥
-    read_wrong no all such e = let (a, is, spelled) = part_of_items text 32 IsSuch all (map text items) (parts_behind 32 behind) part such (sym e ∙ parts) in no a is spelled
+    read_wrong never all such e = let (a, is, spelled) = part_of_items text 32 IsSuch all (map text items) (parts_behind 32 behind) part such (sym e ∙ parts) in never a is spelled
 
 -- rows
 abbrev pub RowSoFar : List ℕ → List ℕ → ℕ → List (Option Cost) → Type 0
@@ -39,7 +39,7 @@ RowSoFar line rest width row = ReadSoFar entry_text IsEntry line rest row × (le
 
 module _ (line rest part : List ℕ) (width : ℕ) (row : List (Option Cost)) (behind : Option (Bor (List ℕ))) (lacks : Lacks 32 part) (whole : rest ≡ part ++ with_rest 32 behind) (some : 0 < width) (h : RowSoFar line rest width row) where
   pub row_wrong : ((a : Option Cost) → IsEntry a → part ≡ entry_text a → ⊥) → (all : List (Option Cost)) → IsRow width all → line ≡ row_line all → ⊥
-  row_wrong no all is e = read_wrong entry_text IsEntry line rest part row behind lacks whole h.0 no all is.entries (row_parts line width all some is e)
+  row_wrong never all is e = read_wrong entry_text IsEntry line rest part row behind lacks whole h.0 never all is.entries (row_parts line width all some is e)
 
   module _ (a : Option Cost) (row' : List (Option Cost)) (is : part ≡ entry_text a) (such : IsEntry a) (more : row' ≡ row ++ (a ∷ [])) where
     read : (parts_of 32 line ≡ map entry_text row' ++ parts_behind 32 behind) × All IsEntry row'
@@ -57,6 +57,11 @@ module _ (line rest part : List ℕ) (width : ℕ) (row : List (Option Cost)) (b
     row_short none short all is' e =
         let p = sym (row_parts line width all some is' e) ∙ read.0 ∙ ap (λ b. map entry_text row' ++ parts_behind 32 b) none ∙ append-nil (map entry_text row') in
         short (omega (arith, ap length p, length-map all entry_text, length-map row' entry_text, is'.width_is))
+
+    -- what a full row is read as
+    pub row_end : (o : Option (List (Option Cost))) → behind ≡ None → MatchOption o (length row' ≡ width → ⊥) (λ full. (length row' ≡ width) × (full ≡ row')) → IsReadAs (IsRow width) row_line line o
+    row_end None none short = row_short none short
+    row_end (Some full) none (is', e) = subst (λ r. IsRow width r × (line ≡ row_line r)) (sym e) (row_read none is')
 
     pub row_long : (r : Bor (List ℕ)) → behind ≡ Some r → length row' ≡ width → (all : List (Option Cost)) → IsRow width all → line ≡ row_line all → ⊥
     row_long r there full all is' e = go (parts_of 32 r.now) refl
@@ -86,7 +91,7 @@ NumbersSoFar bytes rest numbers = ReadSoFar decimal Small bytes rest numbers × 
 
 module _ (bytes rest part numbers : List ℕ) (behind : Option (Bor (List ℕ))) (lacks : Lacks 32 part) (whole : rest ≡ part ++ with_rest 32 behind) (h : NumbersSoFar bytes rest numbers) where
   pub number_wrong : ((n : ℕ) → n ≤ 65535 → part ≡ decimal n → ⊥) → (all : List ℕ) → AreNumbers all → bytes ≡ numbers_text all → ⊥
-  number_wrong no all is e = read_wrong decimal Small bytes rest part numbers behind lacks whole h.0 (λ a small spelled. no a (omega (arith, small)) spelled) all is.1 (numbers_parts bytes all is e)
+  number_wrong never all is e = read_wrong decimal Small bytes rest part numbers behind lacks whole h.0 (λ a small spelled. never a (omega (arith, small)) spelled) all is.1 (numbers_parts bytes all is e)
 
   module _ (a : ℕ) (numbers' : List ℕ) (is : part ≡ decimal a) (such : a ≤ 65535) (more : numbers' ≡ numbers ++ (a ∷ [])) where
     read_numbers : (parts_of 32 bytes ≡ map decimal numbers' ++ parts_behind 32 behind) × All Small numbers'
@@ -105,3 +110,7 @@ module _ (bytes rest part numbers : List ℕ) (behind : Option (Bor (List ℕ)))
         let few = h.1 in
         let less = cut_shorter 32 rest part r.now (whole ∙ ap (λ b. part ++ with_rest 32 b) there) in
         ((read_numbers.0 ∙ ap (λ b. map decimal numbers' ++ parts_behind 32 b) there, read_numbers.1), omega (arith, few, less, ap length more, length-append numbers (a ∷ [])))
+
+-- what isn't read has no such text
+pub unread : {A : Type 0} (IsSuch : A → Type 0) (text : A → List ℕ) (bytes : List ℕ) (o : Option A) → IsReadAs IsSuch text bytes o → o ≡ None → (a : A) → IsSuch a → bytes ≡ text a → ⊥
+unread IsSuch text bytes o h e = subst (IsReadAs IsSuch text bytes) e h

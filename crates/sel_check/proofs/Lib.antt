@@ -13,5 +13,6 @@ pub mod Reading
 pub mod Checking
 pub mod OneText
 pub mod OneAnswer
+pub mod Pairs
 pub mod Items
 pub mod TextExamples

@@ -1,5 +1,5 @@
 -- A text is that of one list of certificates.
-use Rattle.std.proofs.Common.{◌≡◌, ℕ, zero, suc, ◌+◌, ◌≤◌, ◌<◌, ◌^◌, ◌×◌, List, [], ◌∷◌, ◌++◌, Option, Some, None, All, length, map, refl, ap, sym, ◌∙◌, subst, arith, decimal, codes, append_assoc, append-nil, length-append, pos}
+use Rattle.std.proofs.Common.{◌≡◌, ℕ, zero, suc, ◌+◌, ◌≤◌, ◌<◌, ◌^◌, List, [], ◌∷◌, ◌++◌, Option, Some, None, All, length, map, refl, ap, sym, ◌∙◌, subst, arith, decimal, codes, append_assoc, append-nil, length-append, pos}
 use Rattle.std.specs.Fmt.{signed_decimal}
 use Rattle.std.specs.List.{join_with_byte}
 use Rattle.std.proofs.lemmas.Fmt.{decimal_injective, decimal_nonempty}

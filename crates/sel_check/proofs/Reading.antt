@@ -1,7 +1,8 @@
 -- Lines that are taken, one behind the other.
-use Rattle.std.proofs.Common.{◌≡◌, ℕ, zero, suc, ◌+◌, ◌≤◌, ◌<◌, ◌^◌, ◌×◌, List, [], ◌∷◌, ◌++◌, Option, Some, None, All, length, take, drop, map, refl, ap, sym, ◌∙◌, subst, arith, append_assoc, append-nil, length-append, length-take, slice_get, slice_index_or}
+use Rattle.std.proofs.Common.{◌≡◌, ℕ, zero, suc, ◌+◌, ◌≤◌, ◌<◌, ◌^◌, List, [], ◌∷◌, ◌++◌, Option, Some, None, All, length, take, drop, map, refl, ap, sym, ◌∙◌, subst, arith, append_assoc, append-nil, length-append, length-take, slice_get, slice_index_or}
 use Rattle.std.specs.Option.{option_flatten, unwrap_or}
-use Rattle.std.proofs.lemmas.List.Elements.{All-head, All-tail}
+use Rattle.std.proofs.lemmas.List.Elements.{All-head, All-tail, All-nil, All-push}
+use Rattle.std.proofs.lemmas.List.{map-append}
 use Rattle.sel_grammar.specs.declared.grammar.Grammar.{Grammar}
 use Rattle.sel_grammar.specs.Costs.{Cost}
 use Rattle.sel_grammar.specs.SmallCosts.{IsSmall}
@@ -76,12 +77,12 @@ pub no_end : (a : Lines) (w : Wanted) (others : List Wanted) (number : ℕ) → 
 no_end a w others number lacks is = fault_here a w others number (λ line behind h e. separator_stands 10 line behind (a.rest).now lacks e) is
 
 pub wrong_line : (a b : Lines) (w : Wanted) (others : List Wanted) (line : List ℕ) → ((l : List ℕ) → IsLine w l → Lacks 10 l) → IsTaken a b line → (IsLine w line → ⊥) → IsFaultBehind a (w ∷ others) b.taken
-wrong_line a b w others line lacks taken no =
+wrong_line a b w others line lacks taken never =
     fault_here a w others b.taken
     (λ l behind h e.
         let first = first_part_is 10 l behind (a.rest).now (lacks l h) e in
         let first' = first_part_is 10 line (b.rest).now (a.rest).now taken.lacks (taken.took.bytes ∙ one_ended line (b.rest).now) in
-        no (subst (IsLine w) (head (sym first ∙ first')) h)) taken.took.count
+        never (subst (IsLine w) (head (sym first ∙ first')) h)) taken.took.count
   where
     head : {x y : List ℕ} {xs ys : List (List ℕ)} → x ∷ xs ≡ y ∷ ys → x ≡ y
     head e = cc
@@ -190,3 +191,21 @@ for_lines g tree number c h =
     (refl, are_append (wanted_rows g tree) (Rules ∷ []) (map row_line c.costs) (cover_line c.rules ∷ [])
     (are_rows (length g.nonterminals) tree.nodes c.costs (h.places).nodes (rows_of_claims g tree c.costs h.places (h.printable).small))
     ((c.rules, rules_are c.rules (h.printable).some (h.printable).numbers, refl), tt))
+
+-- The invariant of the loop over nodes: so many rows were read.
+pub record RowsSoFar (old now : Lines) (width count : ℕ) (rows : NodeCosts) : Type 0 where
+  pub took : Took old now (map row_line rows)
+  pub all : All (IsRow width) rows
+  pub count_is : length rows ≡ count
+
+pub rows_none : (old : Lines) (width : ℕ) → RowsSoFar old old width 0 []
+rows_none old width = record { took = record { bytes = refl; count = omega arith }; all = All-nil (IsRow width); count_is = refl }
+
+pub rows_more : (old now next : Lines) (width count : ℕ) (rows rows' : NodeCosts) (row : List (Option Cost)) → RowsSoFar old now width count rows → IsRow width row → Took now next (row_line row ∷ []) → rows' ≡ rows ++ (row ∷ [])
+    → RowsSoFar old next width (count + 1) rows'
+rows_more old now next width count rows rows' row h is took more =
+    subst (RowsSoFar old next width (count + 1)) (sym more) (record {
+      took = subst (Took old next) (sym (map-append row_line rows (row ∷ []))) (took_more old now next (map row_line rows) (row_line row ∷ []) h.took took);
+      all = All-push (IsRow width) rows row h.all is;
+      count_is = omega (arith, h.count_is, length-append rows (row ∷ []));
+    })

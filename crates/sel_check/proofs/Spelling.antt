@@ -1,7 +1,7 @@
 -- What the texts of entries, rows and rules are cut into.
-use Rattle.std.proofs.Common.{◌≡◌, ℕ, zero, suc, ◌+◌, ◌≤◌, ◌<◌, ◌^◌, ◌==◌, ◌×◌, Bool, true, false, List, [], ◌∷◌, ◌++◌, Option, Some, None, IfSome, All, length, map, refl, ap, sym, ◌∙◌, subst, arith, decimal, get_or, ℤ, pos, negsuc, ◌≤ℤ◌, codes}
+use Rattle.std.proofs.Common.{◌≡◌, ℕ, zero, suc, ◌+◌, ◌≤◌, ◌<◌, ◌^◌, ◌==◌, Bool, true, false, not, ◌&&◌, List, [], ◌∷◌, ◌++◌, Option, Some, None, IfSome, All, length, map, refl, ap, sym, ◌∙◌, subst, arith, decimal, get_or, ℤ, pos, negsuc, ◌≤ℤ◌, codes}
 use Rattle.std.specs.Fmt.{signed_decimal}
-use Rattle.std.specs.Borrow.{Bor}
+use Rattle.std.specs.List.{list_all}
 use Rattle.std.proofs.lemmas.Int.{ints}
 use Rattle.std.proofs.lemmas.List.Elements.{All-append, All-cons, All-nil, All-head, All-tail, All-push, All-from_get_or}
 use Rattle.sel_grammar.specs.Costs.{Cost}
@@ -99,17 +99,23 @@ row_lacks [] h = nothing_lacks 10
 row_lacks (x ∷ row) h =
     more_lack 10 (entry_text x) (behind entry_text 32 row) (entry_lacks 10 (omega arith) x (All-head IsEntry x row h)) (behind_lacks entry_text 10 refl row (entries_lack row (All-tail IsEntry x row h)))
 
-no_cover_lacks : Lacks 10 (codes "no cover")
-no_cover_lacks =
-    one_lacks 10 110 _ refl (one_lacks 10 111 _ refl (one_lacks 10 32 _ refl (one_lacks 10 99 _ refl (one_lacks 10 111 _ refl (one_lacks 10 118 _ refl (one_lacks 10 101 _ refl (one_lacks 10 114 _ refl (nothing_lacks 10))))))))
+first_differs : (x y : Bool) → (not x && y) ≡ true → x ≡ false
+first_differs true y e = cc
+first_differs false y e = refl
+
+others_differ : (x y : Bool) → (not x && y) ≡ true → y ≡ true
+others_differ true y e = cc
+others_differ false y e = e
+
+-- by a test of each byte
+tested : (bytes : List ℕ) → list_all (λ b. not (b == 10)) bytes ≡ true → Lacks 10 bytes
+tested [] e = nothing_lacks 10
+tested (b ∷ bytes) e = one_lacks 10 b bytes (first_differs (b == 10) (list_all (λ b. not (b == 10)) bytes) e) (tested bytes (others_differ (b == 10) (list_all (λ b. not (b == 10)) bytes) e))
 
 pub rules_lack : (rules : Option (List ℕ)) → AreRules rules → Lacks 10 (cover_line rules)
-rules_lack None h = no_cover_lacks
+rules_lack None h = tested (codes "no cover") refl
 rules_lack (Some rules) h =
-    more_lack 10 (codes "cover") (behind decimal 32 rules) (one_lacks 10 99 _ refl (one_lacks 10 111 _ refl (one_lacks 10 118 _ refl (one_lacks 10 101 _ refl (one_lacks 10 114 _ refl (nothing_lacks 10)))))) (behind_lacks decimal 10 refl rules (numbers_lack 10 (omega arith) rules h.1))
-
-five_lack : Lacks 10 (codes "tree ")
-five_lack = one_lacks 10 116 _ refl (one_lacks 10 114 _ refl (one_lacks 10 101 _ refl (one_lacks 10 101 _ refl (one_lacks 10 32 _ refl (nothing_lacks 10)))))
+    more_lack 10 (codes "cover") (behind decimal 32 rules) (tested (codes "cover") refl) (behind_lacks decimal 10 refl rules (numbers_lack 10 (omega arith) rules h.1))
 
 pub title_lacks : (number : ℕ) → number < 2 ^ 64 → Lacks 10 (tree_line number)
-title_lacks number small = more_lack 10 (codes "tree ") (decimal number) five_lack (decimal_lacks 10 number (omega arith) small)
+title_lacks number small = more_lack 10 (codes "tree ") (decimal number) (tested (codes "tree ") refl) (decimal_lacks 10 number (omega arith) small)

@@ -1,5 +1,5 @@
 -- Worked texts: the certificate of the tree X with the costs 1 and 1 and the list 1 3, the same without its last line, and the places of faults.
-use Rattle.std.proofs.Common.{◌≡◌, ℕ, zero, suc, ◌+◌, ◌×◌, ◌<◌, [], ◌∷◌, ◌++◌, refl, ap, sym, ◌∙◌, subst, Some, None, pos, arith, codes, decimal, length}
+use Rattle.std.proofs.Common.{◌≡◌, ℕ, zero, suc, ◌+◌, ◌<◌, [], ◌∷◌, ◌++◌, refl, ap, sym, ◌∙◌, subst, Some, None, pos, arith, codes, decimal, length, List}
 use Rattle.std.specs.Fmt.{signed_decimal}
 use Rattle.std.proofs.lemmas.Fmt.{decimal_digit}
 use Rattle.std.proofs.lemmas.List.Elements.{All-cons, All-nil}
@@ -59,7 +59,7 @@ missing = record {
   number_is = refl;
 }
   where
-    none : (line behind : _) → [] ≡ line ++ (10 ∷ behind) → ⊥
+    none : (line behind : List ℕ) → [] ≡ line ++ (10 ∷ behind) → ⊥
     none [] behind e = cc
     none (b ∷ line) behind e = cc
 

@@ -76,8 +76,10 @@ fn judged(
             costs.push(cost)?;
             Ok(Verdict::Proved(costs))
         }
-        Err(TreeRefusal::Fault(fault)) => Ok(Verdict::Faulty(placed(lines, tree, fault))),
-        Err(TreeRefusal::NoMemory) => Err(NoMemory),
+        Err(refusal) => match refusal {
+            TreeRefusal::Fault(fault) => Ok(Verdict::Faulty(placed(lines, tree, fault))),
+            TreeRefusal::NoMemory => Err(NoMemory),
+        },
     }
 }
 
@@ -107,9 +109,12 @@ pub fn check(
     };
     let mut verdict = Verdict::Proved(List::new(alloc));
     let mut number = 1;
-    for tree in forest.trees.as_slice() {
+    'trees: for tree in forest.trees.as_slice() {
         let before = lines.taken;
-        let certificate = lines.certificate(alloc, grammar, tree, number)?;
+        let certificate = match lines.certificate(alloc, grammar, tree, number) {
+            Ok(certificate) => certificate,
+            Err(refusal) => return Err(refusal),
+        };
         verdict = judged(alloc, grammar, tree, &certificate, before, verdict)?;
         number += 1;
     }

@@ -36,8 +36,15 @@ fn pair(bytes: &[u8]) -> Option<Pair>
     ensures { IsReadAs (IsSmall greatest_claim) pair_text bytes.now result }
 {
     let cut = first_part(bytes, b',');
-    let first = number(cut.part, GREATEST_CLAIM)?;
-    let second = number(cut.rest?, GREATEST_CLAIM)?;
+    let Some(first) = number(cut.part, GREATEST_CLAIM) else {
+        return None;
+    };
+    let Some(rest) = cut.rest else {
+        return None;
+    };
+    let Some(second) = number(rest, GREATEST_CLAIM) else {
+        return None;
+    };
     Some(Pair {
         first,
         second: second as i64,
@@ -48,7 +55,7 @@ fn pair(bytes: &[u8]) -> Option<Pair>
 fn entry(bytes: &[u8]) -> Option<Option<Pair>>
     ensures { IsReadAs IsEntry entry_text bytes.now result }
 {
-    if bytes == b"-" {
+    if bytes == b"-".as_slice() {
         return Some(None);
     }
     match pair(bytes) {
@@ -119,7 +126,7 @@ pub fn rules(alloc: Global, line: &[u8]) -> Result<Option<Option<List<u16>>>, No
     ensures read { IfOk result (IsReadAs AreRules cover_line line.now) }
     ensures few { IfOk result (λ read. IfSome read (λ rules. IfSome rules (λ numbers. length numbers ≤ length line.now + 1))) }
 {
-    if line == b"no cover" {
+    if line == b"no cover".as_slice() {
         return Ok(Some(None));
     }
     let Some(listed) = line.strip_prefix(b"cover ") else {

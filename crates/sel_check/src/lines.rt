@@ -19,7 +19,7 @@ use sel_grammar::Grammar;
 use std::alloc::Global;
 
 /// What is left of a text, and how many lines were taken from it.
-#[derive(Debug)]
+#[derive(Debug, Drop)]
 pub struct Lines<'a> {
     pub rest: &'a [u8],
     pub taken: u32,
@@ -53,7 +53,10 @@ impl<'a> Lines<'a> {
         ensures line { OnOk result (Took self.old self.new (tree_line tree ∷ [])) }
         ensures fault { IfErr result (λ refusal. (others : List Wanted) → IsRefusedBehind self.old (Title tree ∷ others) refusal) }
     {
-        let line = self.take()?;
+        let line = match self.take() {
+            Ok(line) => line,
+            Err(refusal) => return Err(refusal),
+        };
         if is_title(line, tree) {
             Ok(())
         } else {
@@ -68,7 +71,10 @@ impl<'a> Lines<'a> {
         ensures line { IfOk result (λ row. IsRow width row × Took self.old self.new (row_line row ∷ [])) }
         ensures fault { IfErr result (λ refusal. (others : List Wanted) → IsRefusedBehind self.old (Row width ∷ others) refusal) }
     {
-        let line = self.take()?;
+        let line = match self.take() {
+            Ok(line) => line,
+            Err(refusal) => return Err(refusal),
+        };
         match row(alloc, line, width)? {
             Some(row) => Ok(row),
             None => Err(wrong(self.taken)),
@@ -88,12 +94,15 @@ impl<'a> Lines<'a> {
         ensures lines { IfOk result (λ rows. All (IsRow width) rows × Took self.old self.new (map row_line rows)) }
         ensures fault { IfErr result (λ refusal. (others : List Wanted) → IsRefusedBehind self.old (map (λ (node : AnyNode). Row width) nodes.now ++ others) refusal) }
     {
-        let mut rows = Vec::with_capacity(alloc, nodes.len())?;
-        for _ in nodes {
-            let row = self.row(alloc, width)?;
+        let mut rows = List::new(alloc);
+        'nodes: for _node in nodes {
+            let row = match self.row(alloc, width) {
+                Ok(row) => row,
+                Err(refusal) => return Err(refusal),
+            };
             rows.push(row)?;
         }
-        Ok(List::from_vec(rows))
+        Ok(rows)
     }
 
     /// Takes the line of the rules.
@@ -103,8 +112,11 @@ impl<'a> Lines<'a> {
         ensures few { IfOk result (λ rules. IfSome rules (λ numbers. length numbers < 2 ^ 32)) }
         ensures fault { IfErr result (λ refusal. (others : List Wanted) → IsRefusedBehind self.old (Rules ∷ others) refusal) }
     {
-        let line = self.take()?;
-        match rules(alloc, line)? {
+        let last = match self.take() {
+            Ok(last) => last,
+            Err(refusal) => return Err(refusal),
+        };
+        match rules(alloc, last)? {
             Some(rules) => Ok(rules),
             None => Err(wrong(self.taken)),
         }
@@ -125,9 +137,18 @@ impl<'a> Lines<'a> {
         ensures few { IfOk result (λ c. IfSome c.rules (λ numbers. length numbers < 2 ^ 32)) }
         ensures fault { IfErr result (λ refusal. (others : List Wanted) → IsRefusedBehind self.old (wanted_of_tree grammar.now number tree.now ++ others) refusal) }
     {
-        self.title(number)?;
-        let costs = self.rows(alloc, grammar.nonterminals.len(), tree.nodes.as_slice())?;
-        let rules = self.rules(alloc)?;
+        match self.title(number) {
+            Ok(()) => {}
+            Err(refusal) => return Err(refusal),
+        }
+        let costs = match self.rows(alloc, grammar.nonterminals.len(), tree.nodes.as_slice()) {
+            Ok(costs) => costs,
+            Err(refusal) => return Err(refusal),
+        };
+        let rules = match self.rules(alloc) {
+            Ok(rules) => rules,
+            Err(refusal) => return Err(refusal),
+        };
         Ok(TreeCertificate { costs, rules })
     }
 }
