@@ -1,11 +1,10 @@
 -- The loop over the trees of a forest.
-use Rattle.std.proofs.Common.{◌≡◌, ℕ, zero, suc, ◌+◌, ◌≤◌, ◌<◌, ◌^◌, ◌⊎◌, inl, inr, List, [], ◌∷◌, ◌++◌, Option, Some, None, length, take, drop, map, refl, ap, sym, ◌∙◌, subst, arith, append_assoc, append-nil, length-append, length-take, slice_get, slice_index_or, nat_eq, true, false}
+use Rattle.std.proofs.Common.{◌≡◌, ℕ, suc, ◌+◌, ◌≤◌, ◌<◌, ◌⊎◌, inl, inr, List, [], ◌∷◌, ◌++◌, Option, length, take, drop, map, refl, ap, sym, ◌∙◌, subst, arith, append_assoc, append-nil, length-append, length-take, slice_index_or, nat_eq, true, false}
 use Rattle.std.proofs.lemmas.List.{take_all, length-map}
-use Rattle.std.proofs.lemmas.List.Sums.{sum_by_push, sum_by-cons}
+use Rattle.std.proofs.lemmas.List.Sums.{sum_by_push}
 use Rattle.sel_grammar.specs.declared.grammar.Grammar.{Grammar}
 use Rattle.sel_grammar.specs.Costs.{Cost}
 use Rattle.sel_grammar.specs.PlainTrees.{PlainTree}
-use Rattle.sel_forest.specs.declared.forest.Node.{Node}
 use Rattle.sel_forest.specs.declared.forest.Tree.{Tree}
 use Rattle.sel_forest.specs.declared.forest.Forest.{Forest}
 use Rattle.sel_forest.specs.Postorder.{IsPostorderOf, IsTree}
@@ -21,13 +20,12 @@ use Rattle.sel_check.specs.declared.refusal.CheckRefusal.{CheckRefusal}
 use Rattle.sel_check.specs.declared.refusal.CheckRefusal.TheVariants as refusal
 use Rattle.sel_check.specs.declared.refusal.TreeFault.{TreeFault}
 use Rattle.sel_check.specs.declared.refusal.TreeFault.TheVariants as fault
-use Rattle.sel_check.specs.Certificates.{claim, start_goal}
-use Rattle.sel_check.specs.CertificateTexts.{row_line, cover_line, tree_line, certificate_lines, certificate_text, certificates_text, ended}
+use Rattle.sel_check.specs.CertificateTexts.{row_line, cover_line, certificate_lines, certificate_text, certificates_text, ended}
 use Rattle.sel_check.specs.Laws.{IsLeastCost}
-use Rattle.sel_check.specs.TreeChecks.{ProvesCost, IsTreeFault, IsTreeRefusal, BreaksBound}
+use Rattle.sel_check.specs.TreeChecks.{ProvesCost, IsTreeFault, IsTreeRefusal}
 use Rattle.sel_check.specs.declared.refusal.TreeRefusal.{TreeRefusal}
 use Rattle.sel_check.specs.declared.refusal.TreeRefusal.TheVariants as tree_refusal
-use Rattle.sel_check.specs.Checks.{IsFor, AreFor, Spells, AreProved, ProvesCosts, AreLeastCosts, lines_of_trees, placed, IsInside, IsFirstUnproved, IsProofFault, IsCheckFault, IsCheckRefusal, text_fault}
+use Rattle.sel_check.specs.Checks.{IsFor, AreFor, Spells, AreProved, ProvesCosts, AreLeastCosts, lines_of_trees, placed, IsInside, IsFirstUnproved, IsCheckFault, IsCheckRefusal, text_fault}
 use Rattle.sel_check.specs.LineReading.{Took, IsRefusedBehind, IsVerdict}
 use Rattle.sel_check.specs.WantedLines.{Wanted, AreLines, wanted_of_tree, wanted_lines, IsFormFault}
 use Rattle.sel_check.proofs.Bounding.{proof_is_least}
@@ -151,7 +149,7 @@ refusal_faulty g trees cs old costs t c lines why broken found is h fault_is pla
 
 pub empty_of : (xs : List ℕ) → nat_eq (length xs) 0 ≡ true → xs ≡ []
 empty_of [] e = refl
-empty_of (x ∷ xs) e = cc
+empty_of (x ∷ xs) e = let h : nat_eq (suc (length xs)) 0 ≡ true = e in absurd (grind arith)
 
 pub not_empty : (xs : List ℕ) → nat_eq (length xs) 0 ≡ false → xs ≡ [] → ⊥
 not_empty [] e q = cc
@@ -234,8 +232,11 @@ module _ (g : Grammar) (forest : Forest) (bytes : List ℕ) (a b : Lines) (count
       (omega (arith, so_far.number_is, lt, length-take count forest.trees)) in
       let fault = form_behind (wanted_lines g 1 (take count forest.trees)) (wanted_of_tree g number tree ++ others) (all_lines 1 so_far.cs) bytes (a.rest).now n
       (all_for_lines g 1 (take count forest.trees) so_far.cs so_far.each) so_far.text f in
-      inl (kind, subst (λ w. IsFormFault w bytes found.line) (sym all) (subst (IsFormFault (wanted_lines g 1 (take count forest.trees) ++ (wanted_of_tree g number tree ++ others)) bytes)
-      (let s : length (all_lines 1 so_far.cs) + n ≡ found.line = omega (arith, is', so_far.taken) in s) fault))
+      inl (
+        kind,
+        subst (λ w. IsFormFault w bytes found.line) (sym all) (subst (IsFormFault (wanted_lines g 1 (take count forest.trees) ++ (wanted_of_tree g number tree ++ others)) bytes)
+            (let s : length (all_lines 1 so_far.cs) + n ≡ found.line = omega (arith, is', so_far.taken) in s) fault),
+      )
   refused_tree refusal.NoMemory refused = tt
 
 -- behind the last tree
@@ -244,17 +245,20 @@ module _ (g : Grammar) (forest : Forest) (bytes : List ℕ) (a : Lines) (count n
   all = take_all count forest.trees end
 
   pub more_text : (found : CheckFault) → ((a.rest).now ≡ [] → ⊥) → found.kind ≡ text_fault → found.line ≡ a.taken + 1 → IsCheckFault g forest bytes found
-  more_text found more kind line = inl (kind, record {
-    done = wanted_lines g 1 forest.trees;
-    others = [];
-    wanted_are = sym (append-nil (wanted_lines g 1 forest.trees));
-    before = all_lines 1 so_far.cs;
-    as_wanted = all_for_lines g 1 forest.trees so_far.cs (subst (λ ts. AreFor g ts so_far.cs) all so_far.each);
-    rest = (a.rest).now;
-    bytes_are = so_far.text;
-    here = more;
-    number_is = omega (arith, line, so_far.taken);
-  })
+  more_text found more kind line = inl (
+    kind,
+    record {
+      done = wanted_lines g 1 forest.trees;
+      others = [];
+      wanted_are = sym (append-nil (wanted_lines g 1 forest.trees));
+      before = all_lines 1 so_far.cs;
+      as_wanted = all_for_lines g 1 forest.trees so_far.cs (subst (λ ts. AreFor g ts so_far.cs) all so_far.each);
+      rest = (a.rest).now;
+      bytes_are = so_far.text;
+      here = more;
+      number_is = omega (arith, line, so_far.taken);
+    },
+  )
 
   spelled : (a.rest).now ≡ [] → Spells g forest bytes so_far.cs
   spelled none = record {

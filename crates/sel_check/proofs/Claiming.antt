@@ -1,9 +1,9 @@
 -- Sums of claims, as the walk over a pattern adds them.
-use Rattle.std.proofs.Common.{◌≡◌, ℕ, ◌+◌, ◌*◌, ◌<◌, ◌≤◌, ◌^◌, Option, Some, None, List, [], ◌∷◌, ◌++◌, refl, ap, sym, ◌∙◌, subst, arith, ℤ, pos, ◌+ℤ◌, ◌≤ℤ◌, slice_get}
+use Rattle.std.proofs.Common.{◌≡◌, ℕ, ◌+◌, ◌<◌, ◌≤◌, Option, Some, None, List, [], ◌∷◌, ◌++◌, refl, ap, sym, ◌∙◌, subst, arith, ℤ, pos, ◌+ℤ◌, ◌≤ℤ◌, slice_get}
 use Rattle.std.specs.Prelude.{IfSome}
 use Rattle.std.proofs.lemmas.Int.{ints}
 use Rattle.sqlite_items.specs.declared.boxed.Boxed.{Boxed}
-use Rattle.sel_grammar.specs.declared.grammar.Pattern.{Pattern, Leaf, Nullary, Unary, Binary, Unary', Binary', end_of-Pattern, more_of-Pattern}
+use Rattle.sel_grammar.specs.declared.grammar.Pattern.{Pattern, Leaf, Unary, Binary}
 use Rattle.sel_grammar.specs.declared.grammar.Pattern.TheBlock.{shape-the_row-Pattern-0, hidden-the_row-Pattern-0}
 use denote.Hole.Carrier.{hidden}
 use Rattle.sel_grammar.specs.Costs.{Cost, no_cost, ◌⊕◌}

@@ -1,7 +1,7 @@
 -- Texts cut at separators, and put together from parts that lack them.
-use Rattle.std.proofs.Common.{◌≡◌, ℕ, zero, suc, ◌+◌, ◌≤◌, ◌<◌, ◌==◌, Bool, true, false, List, [], ◌∷◌, ◌++◌, Option, Some, None, All, length, take, drop, map, flat_map, get_or, slice_index, refl, ap, sym, ◌∙◌, subst, arith, append-nil, append_assoc, take-append-drop, drop-cons, get_or-take, length-take, length-append, true≢false}
-use Rattle.std.specs.List.{slice_split, join_with_byte}
-use Rattle.std.proofs.lemmas.List.Elements.{All-from_get_or, All-get_or, All-head, All-tail, All-cons, All-nil}
+use Rattle.std.proofs.Common.{◌≡◌, ℕ, suc, ◌+◌, ◌<◌, ◌==◌, Bool, true, false, List, [], ◌∷◌, ◌++◌, Option, Some, None, All, length, take, drop, map, flat_map, get_or, refl, ap, sym, ◌∙◌, subst, arith, append-nil, take-append-drop, drop-cons, get_or-take, length-take, length-append, true≢false}
+use Rattle.std.specs.List.{join_with_byte}
+use Rattle.std.proofs.lemmas.List.Elements.{All-from_get_or, All-head, All-tail}
 use Rattle.std.proofs.lemmas.List.Splits.{slice_split_none, slice_split_at, join_with_byte-slice_split}
 use Rattle.memchr.specs.Find.{IsFirstByte, is_byte}
 use Rattle.sel_check.specs.LineReading.{parts_of, Lacks, with_rest}

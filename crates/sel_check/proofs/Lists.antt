@@ -1,5 +1,5 @@
 -- Lists by their places, and a list around one of its items.
-use Rattle.std.proofs.Common.{◌≡◌, ℕ, zero, suc, ◌+◌, ◌<◌, List, [], ◌∷◌, ◌++◌, Some, All, length, take, drop, map, refl, ap, sym, ◌∙◌, subst, arith, slice_get, slice_index_or, take-suc, add-one, append_assoc}
+use Rattle.std.proofs.Common.{◌≡◌, ℕ, zero, suc, ◌+◌, ◌<◌, List, [], ◌∷◌, ◌++◌, Some, All, length, take, drop, refl, ap, sym, ◌∙◌, subst, arith, slice_get, slice_index_or, take-suc, add-one}
 use Rattle.std.proofs.lemmas.List.Elements.{All-cons, All-nil, All-head, All-tail}
 
 pub all_from_get : {X : Type 0} (P : X → Type 0) (xs : List X) → ((k : ℕ) (x : X) → slice_get xs k ≡ Some x → P x) → All P xs

@@ -1,5 +1,5 @@
 -- A text has one answer, and the text of best costs is proved.
-use Rattle.std.proofs.Common.{◌≡◌, ℕ, zero, suc, ◌+◌, ◌≤◌, ◌<◌, ◌^◌, ◌⊎◌, inl, inr, List, [], ◌∷◌, ◌++◌, Option, Some, None, length, refl, ap, sym, ◌∙◌, subst, arith, append-nil, append_assoc, slice_get}
+use Rattle.std.proofs.Common.{◌≡◌, ℕ, zero, suc, ◌+◌, ◌<◌, ◌^◌, ◌⊎◌, inl, inr, List, [], ◌∷◌, ◌++◌, Option, Some, None, length, refl, ap, sym, ◌∙◌, subst, arith, append_assoc, slice_get}
 use Rattle.std.proofs.lemmas.List.Sums.{sum_by-cons}
 use Rattle.sel_grammar.specs.declared.grammar.Grammar.{Grammar}
 use Rattle.sel_grammar.specs.Costs.{Cost}
@@ -11,10 +11,10 @@ use Rattle.sel_check.specs.declared.certificate.TreeCertificate.{TreeCertificate
 use Rattle.sel_check.specs.declared.refusal.CheckFault.{CheckFault}
 use Rattle.sel_check.specs.declared.refusal.TreeFault.{TreeFault}
 use Rattle.sel_check.specs.declared.refusal.TreeFault.TheVariants as fault
-use Rattle.sel_check.specs.Certificates.{claim, start_goal, BoundsAt, Bounds, IsShown}
-use Rattle.sel_check.specs.CertificateTexts.{certificates_text, ended}
+use Rattle.sel_check.specs.Certificates.{claim, start_goal, IsShown}
+use Rattle.sel_check.specs.CertificateTexts.{ended}
 use Rattle.sel_check.specs.TreeChecks.{ProvesCost, IsTreeFault, BreaksBound, HasNoDerivation, IsNotShown}
-use Rattle.sel_check.specs.Checks.{IsFor, AreFor, Spells, AreProved, ProvesCosts, lines_of_trees, placed, IsFirstUnproved, IsProofFault, IsCheckFault, text_fault}
+use Rattle.sel_check.specs.Checks.{AreFor, Spells, AreProved, ProvesCosts, lines_of_trees, placed, IsFirstUnproved, IsCheckFault}
 use Rattle.sel_check.specs.CheckLaws.{IsCertified, AreCertified, CertifiedIsProved, ProvedCostsAreOne, CheckFaultIsOne, NoFaultIsProved}
 use Rattle.sel_check.specs.WantedLines.{Wanted, IsLine, AreLines, wanted_lines, IsNoLine, IsFormFault}
 use Rattle.sel_forest.proofs.Roots.{plain_one}
@@ -43,7 +43,7 @@ wrong_behind (w ∷ done) others (x ∷ before) bytes rest n are is h e =
       are.0,
       is ∙ ap (λ t. t ++ rest) (ended_cons x before) ∙ append_assoc x (10 ∷ ended before) rest,
       wrong_behind done others before (ended before ++ rest) rest (length before + 1) are.1 refl h refl,
-      e,
+      omega (arith, e),
     )
 
 wrong : (wanted : List Wanted) (bytes : List ℕ) (n : ℕ) → IsFormFault wanted bytes n → IsWrong wanted bytes n
@@ -133,7 +133,7 @@ first_behind g (t ∷ before) tree behind (d ∷ proofs) c others (cost ∷ cost
 first : (g : Grammar) (trees : List Tree) (cs : List TreeCertificate) (found : CheckFault) → IsFirstUnproved g trees cs found → IsFirst g trees cs 0 found
 first g trees cs found f =
     subst (λ ts. IsFirst g ts cs 0 found) (sym f.trees_are)
-    (subst (λ ds. IsFirst g (f.before ++ (f.tree ∷ f.behind)) ds 0 found) (sym f.certificates_are) (first_behind g f.before f.tree f.behind f.proofs f.certificate f.others f.costs f.tree_fault 0 found f.proved f.here f.fault_is))
+    (subst (λ ds. IsFirst g (f.before ++ (f.tree ∷ f.behind)) ds 0 found) (sym f.certificates_are) (first_behind g f.before f.tree f.behind f.proofs f.certificate f.others f.costs f.tree_fault 0 found f.proved f.here (f.fault_is ∙ ap (λ n. placed n f.tree f.tree_fault) (let q : lines_of_trees f.before ≡ 0 + lines_of_trees f.before = omega arith in q))))
 
 first_one : (g : Grammar) (trees : List Tree) (cs : List TreeCertificate) (lines : ℕ) (x y : CheckFault) → IsFirst g trees cs lines x → IsFirst g trees cs lines y → x ≡ y
 first_one g [] cs lines x y h k = absurd h

@@ -1,5 +1,5 @@
 -- A text is that of one list of certificates.
-use Rattle.std.proofs.Common.{◌≡◌, ℕ, zero, suc, ◌+◌, ◌≤◌, ◌<◌, ◌^◌, List, [], ◌∷◌, ◌++◌, Option, Some, None, All, length, map, refl, ap, sym, ◌∙◌, subst, arith, decimal, codes, append_assoc, append-nil, length-append, pos}
+use Rattle.std.proofs.Common.{◌≡◌, ℕ, zero, suc, ◌+◌, ◌<◌, ◌^◌, List, [], ◌∷◌, ◌++◌, Option, Some, None, All, length, map, refl, ap, sym, ◌∙◌, arith, decimal, codes, append_assoc, length-append, pos}
 use Rattle.std.specs.Fmt.{signed_decimal}
 use Rattle.std.specs.List.{join_with_byte}
 use Rattle.std.proofs.lemmas.Fmt.{decimal_injective, decimal_nonempty}
@@ -9,16 +9,17 @@ use Rattle.std.proofs.lemmas.List.Splits.{join_with_byte-slice_split}
 use Rattle.sel_grammar.specs.declared.grammar.Grammar.{Grammar}
 use Rattle.sel_grammar.specs.Costs.{Cost}
 use Rattle.sel_grammar.specs.SmallCosts.{IsSmall}
+use Rattle.sel_forest.specs.declared.forest.Node.{Node}
 use Rattle.sel_forest.specs.declared.forest.Tree.{Tree}
 use Rattle.sel_plain.specs.NodeCosts.{NodeCosts}
 use Rattle.sel_check.specs.declared.certificate.TreeCertificate.{TreeCertificate}
-use Rattle.sel_check.specs.CertificateTexts.{greatest_claim, entry_text, row_line, cover_line, tree_line, certificate_lines, certificates_text, ended, HasSmallClaims}
+use Rattle.sel_check.specs.CertificateTexts.{greatest_claim, entry_text, row_line, cover_line, certificate_lines, certificates_text, ended}
 use Rattle.sel_check.specs.Checks.{IsFor, AreFor}
 use Rattle.sel_check.specs.LineReading.{parts_of, Lacks, numbers_text, pair_text}
 use Rattle.sel_check.specs.WantedLines.{Wanted, Title, Row, Rules, IsEntry, IsRow, AreRules, IsLine, AreLines, wanted_of_tree, wanted_lines}
 use Rattle.sel_check.proofs.Checking.{all_lines, all_for_lines, text_lines, lines_count}
 use Rattle.sel_check.proofs.Cutting.{first_part_is}
-use Rattle.sel_check.proofs.Reading.{one_ended, title_only, row_only, rules_only, rows_of_claims, rules_are}
+use Rattle.sel_check.proofs.Reading.{title_only, row_only, rules_only, rows_of_claims, rules_are}
 use Rattle.sel_check.proofs.Spelling.{pair_parts, row_parts, numbers_parts, cover_numbers}
 
 heads : {A : Type 0} {x y : A} {xs ys : List A} → x ∷ xs ≡ y ∷ ys → x ≡ y
@@ -80,7 +81,7 @@ short_append (Rules ∷ v) w h k = short_append v w h k
 short_tree : (g : Grammar) (number : ℕ) (tree : Tree) → number < 2 ^ 64 → AreShort (wanted_of_tree g number tree)
 short_tree g number tree small = (small, rows tree.nodes)
   where
-    rows : (nodes : _) → AreShort (map (λ node. Row (length g.nonterminals)) nodes ++ (Rules ∷ []))
+    rows : (nodes : List Node) → AreShort (map (λ (node : Node). Row (length g.nonterminals)) nodes ++ (Rules ∷ []))
     rows [] = tt
     rows (n ∷ nodes) = rows nodes
 
@@ -128,13 +129,13 @@ number_one x y h k e = decimal_injective x y (omega arith) (omega arith) e
 
 rules_one : (x y : Option (List ℕ)) → AreRules x → AreRules y → cover_line x ≡ cover_line y → x ≡ y
 rules_one None None h k e = refl
-rules_one None (Some y) h k e = cc
-rules_one (Some x) None h k e = cc
+rules_one None (Some y) h k e = let p : 110 ≡ 99 = heads e in absurd (omega (arith, p))
+rules_one (Some x) None h k e = let p : 99 ≡ 110 = heads e in absurd (omega (arith, p))
 rules_one (Some x) (Some y) h k e =
     ap Some (items_one decimal (λ r. r < 2 ^ 16) number_one x y h.1 k.1 (sym (numbers_parts (numbers_text x) x h refl) ∙ numbers_parts (numbers_text x) y k (six (sym (cover_numbers x h.0) ∙ e ∙ cover_numbers y k.0))))
   where
     six : codes "cover " ++ numbers_text x ≡ codes "cover " ++ numbers_text y → numbers_text x ≡ numbers_text y
-    six e = cc
+    six e = tails (tails (tails (tails (tails (tails e)))))
 
 -- lists of one length, each before another
 front_one : {A : Type 0} (xs ys zs ws : List A) → length xs ≡ length ys → xs ++ zs ≡ ys ++ ws → (xs ≡ ys) × (zs ≡ ws)

@@ -8,17 +8,17 @@ use Rattle.sel_grammar.specs.Costs.{Cost}
 use Rattle.sel_grammar.specs.SmallCosts.{IsSmall}
 use Rattle.sel_forest.specs.declared.forest.Node.{Node}
 use Rattle.sel_forest.specs.declared.forest.Tree.{Tree}
-use Rattle.sel_plain.specs.NodeCosts.{NodeCosts, cost_at, HasPlaces}
+use Rattle.sel_plain.specs.NodeCosts.{NodeCosts, HasPlaces}
 use Rattle.sel_check.specs.declared.certificate.TreeCertificate.{TreeCertificate}
 use Rattle.sel_check.specs.declared.lines.Lines.{Lines}
 use Rattle.sel_check.specs.declared.refusal.CheckRefusal.{CheckRefusal}
 use Rattle.sel_check.specs.declared.refusal.CheckRefusal.TheVariants as refusal
-use Rattle.sel_check.specs.CertificateTexts.{greatest_claim, row_line, cover_line, tree_line, certificate_lines, ended, HasSmallClaims, IsPrintable}
-use Rattle.sel_check.specs.Checks.{IsFor, text_fault}
-use Rattle.sel_check.specs.LineReading.{parts_of, Lacks, Took, IsTaken, IsFaultBehind, IsRefusedBehind}
+use Rattle.sel_check.specs.CertificateTexts.{greatest_claim, row_line, cover_line, tree_line, certificate_lines, ended, HasSmallClaims}
+use Rattle.sel_check.specs.Checks.{IsFor}
+use Rattle.sel_check.specs.LineReading.{Lacks, Took, IsTaken, IsFaultBehind, IsRefusedBehind}
 use Rattle.sel_check.specs.WantedLines.{Wanted, Title, Row, Rules, IsEntry, IsRow, AreRules, IsLine, AreLines, wanted_rows, wanted_of_tree, IsNoLine, IsFormFault}
 use Rattle.sel_check.proofs.Cutting.{first_part_is, separator_stands}
-use Rattle.sel_check.proofs.Lists.{all_from_get, all_get, around}
+use Rattle.sel_check.proofs.Lists.{all_from_get, all_get}
 use Rattle.sel_check.proofs.Spelling.{title_lacks, row_lacks, rules_lack}
 
 pub ended_append : (xs ys : List (List ℕ)) → ended (xs ++ ys) ≡ ended xs ++ ended ys
@@ -80,9 +80,9 @@ pub wrong_line : (a b : Lines) (w : Wanted) (others : List Wanted) (line : List 
 wrong_line a b w others line lacks taken never =
     fault_here a w others b.taken
     (λ l behind h e.
-        let first = first_part_is 10 l behind (a.rest).now (lacks l h) e in
-        let first' = first_part_is 10 line (b.rest).now (a.rest).now taken.lacks (taken.took.bytes ∙ one_ended line (b.rest).now) in
-        never (subst (IsLine w) (head (sym first ∙ first')) h)) taken.took.count
+    let first = first_part_is 10 l behind (a.rest).now (lacks l h) e in
+    let first' = first_part_is 10 line (b.rest).now (a.rest).now taken.lacks (taken.took.bytes ∙ one_ended line (b.rest).now) in
+    never (subst (IsLine w) (head (sym first ∙ first')) h)) taken.took.count
   where
     head : {x y : List ℕ} {xs ys : List (List ℕ)} → x ∷ xs ≡ y ∷ ys → x ≡ y
     head e = cc
@@ -180,17 +180,19 @@ is_for g tree costs rules count all are =
       printable = record { small = claims_of_rows (length g.nonterminals) costs all; some = some; numbers = numbers };
     }
 
-rules_are : (rules : Option (List ℕ)) → (rules ≡ Some [] → ⊥) → ((numbers : List ℕ) (k r : ℕ) → rules ≡ Some numbers → slice_get numbers k ≡ Some r → r < 2 ^ 16) → AreRules rules
+pub rules_are : (rules : Option (List ℕ)) → (rules ≡ Some [] → ⊥) → ((numbers : List ℕ) (k r : ℕ) → rules ≡ Some numbers → slice_get numbers k ≡ Some r → r < 2 ^ 16) → AreRules rules
 rules_are None some numbers = tt
 rules_are (Some []) some numbers = absurd (some refl)
 rules_are (Some (r ∷ rules)) some numbers = (omega arith, all_from_get (λ r. r < 2 ^ 16) (r ∷ rules) (λ k x at. numbers (r ∷ rules) k x refl at))
 
 -- and its lines are as wanted
 pub for_lines : (g : Grammar) (tree : Tree) (number : ℕ) (c : TreeCertificate) → IsFor g tree c → AreLines (wanted_of_tree g number tree) (certificate_lines number c)
-for_lines g tree number c h =
-    (refl, are_append (wanted_rows g tree) (Rules ∷ []) (map row_line c.costs) (cover_line c.rules ∷ [])
-    (are_rows (length g.nonterminals) tree.nodes c.costs (h.places).nodes (rows_of_claims g tree c.costs h.places (h.printable).small))
-    ((c.rules, rules_are c.rules (h.printable).some (h.printable).numbers, refl), tt))
+for_lines g tree number c h = (
+  refl,
+  are_append (wanted_rows g tree) (Rules ∷ []) (map row_line c.costs) (cover_line c.rules ∷ [])
+      (are_rows (length g.nonterminals) tree.nodes c.costs (h.places).nodes (rows_of_claims g tree c.costs h.places (h.printable).small))
+      ((c.rules, rules_are c.rules (h.printable).some (h.printable).numbers, refl), tt),
+)
 
 -- The invariant of the loop over nodes: so many rows were read.
 pub record RowsSoFar (old now : Lines) (width count : ℕ) (rows : NodeCosts) : Type 0 where

@@ -1,14 +1,14 @@
 -- What the texts of entries, rows and rules are cut into.
-use Rattle.std.proofs.Common.{◌≡◌, ℕ, zero, suc, ◌+◌, ◌≤◌, ◌<◌, ◌^◌, ◌==◌, Bool, true, false, not, ◌&&◌, List, [], ◌∷◌, ◌++◌, Option, Some, None, IfSome, All, length, map, refl, ap, sym, ◌∙◌, subst, arith, decimal, get_or, ℤ, pos, negsuc, ◌≤ℤ◌, codes}
+use Rattle.std.proofs.Common.{◌≡◌, ℕ, ◌≤◌, ◌<◌, ◌^◌, ◌==◌, Bool, true, false, not, ◌&&◌, List, [], ◌∷◌, ◌++◌, Option, Some, None, All, length, map, refl, ap, sym, ◌∙◌, subst, arith, decimal, ℤ, pos, negsuc, ◌≤ℤ◌, codes}
 use Rattle.std.specs.Fmt.{signed_decimal}
 use Rattle.std.specs.List.{list_all}
 use Rattle.std.proofs.lemmas.Int.{ints}
-use Rattle.std.proofs.lemmas.List.Elements.{All-append, All-cons, All-nil, All-head, All-tail, All-push, All-from_get_or}
+use Rattle.std.proofs.lemmas.List.Elements.{All-append, All-cons, All-nil, All-head, All-tail}
 use Rattle.sel_grammar.specs.Costs.{Cost}
 use Rattle.sel_grammar.specs.SmallCosts.{IsSmall}
 use Rattle.sel_check.specs.CertificateTexts.{greatest_claim, entry_text, row_line, cover_line, tree_line}
 use Rattle.sel_check.specs.LineReading.{parts_of, Lacks, pair_text, AreNumbers, numbers_text}
-use Rattle.sel_check.specs.WantedLines.{Wanted, Title, Row, Rules, IsEntry, IsRow, AreRules, IsLine}
+use Rattle.sel_check.specs.WantedLines.{IsEntry, IsRow, AreRules}
 use Rattle.sel_check.proofs.Cutting.{split_items, spelled_items, first_part_is, behind}
 use Rattle.sel_check.proofs.Decimals.{decimal_lacks}
 use Rattle.std.proofs.lemmas.List.Splits.{slice_split_none}
@@ -28,7 +28,7 @@ pair_parts bytes c small e =
       most,
       is,
       first_part_is 44 (decimal c.first) (decimal m) bytes lacks (e ∙ ap (λ z. decimal c.first ++ (44 ∷ signed_decimal z)) is)
-      ∙ ap (λ parts. decimal c.first ∷ parts) (slice_split_none (λ b. b == 44) (decimal m) lacks'),
+          ∙ ap (λ parts. decimal c.first ∷ parts) (slice_split_none (λ b. b == 44) (decimal m) lacks'),
     )
 
 one_lacks : (c b : ℕ) (bytes : List ℕ) → (b == c) ≡ false → Lacks c bytes → Lacks c (b ∷ bytes)

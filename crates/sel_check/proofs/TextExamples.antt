@@ -1,6 +1,5 @@
 -- Worked texts: the certificate of the tree X with the costs 1 and 1 and the list 1 3, the same without its last line, and the places of faults.
-use Rattle.std.proofs.Common.{◌≡◌, ℕ, zero, suc, ◌+◌, ◌<◌, [], ◌∷◌, ◌++◌, refl, ap, sym, ◌∙◌, subst, Some, None, pos, arith, codes, decimal, length, List}
-use Rattle.std.specs.Fmt.{signed_decimal}
+use Rattle.std.proofs.Common.{◌≡◌, ℕ, ◌+◌, ◌<◌, [], ◌∷◌, ◌++◌, refl, ap, sym, Some, pos, arith, codes, decimal, List}
 use Rattle.std.proofs.lemmas.Fmt.{decimal_digit}
 use Rattle.std.proofs.lemmas.List.Elements.{All-cons, All-nil}
 use Rattle.std.proofs.lemmas.Int.{ints}
@@ -10,9 +9,9 @@ use Rattle.sel_grammar.specs.Costs.{Cost}
 use Rattle.sel_forest.specs.declared.forest.Tree.{Tree}
 use Rattle.sel_check.specs.declared.certificate.TreeCertificate.{TreeCertificate}
 use Rattle.sel_check.specs.declared.refusal.TreeFault.TheVariants as fault
-use Rattle.sel_check.specs.CertificateTexts.{row_line, cover_line, tree_line, certificate_text, certificates_text}
+use Rattle.sel_check.specs.CertificateTexts.{row_line, cover_line, tree_line, certificates_text}
 use Rattle.sel_check.specs.Checks.{placed, lines_of_trees}
-use Rattle.sel_check.specs.WantedLines.{Title, Row, Rules, IsEntry, IsRow, IsLine, wanted_lines, IsFormFault}
+use Rattle.sel_check.specs.WantedLines.{Title, Row, Rules, IsEntry, wanted_lines, IsFormFault}
 
 abbrev one : Cost
 one = record { first = 1; second = pos 0 }

@@ -1,12 +1,9 @@
 -- The text of certificates.
 use Rattle.std.specs.Prelude.{◌≡◌, ℕ, ◌+◌, ◌<◌, ◌^◌, Option, Some, None, List, [], ◌∷◌, ◌++◌, slice_get, map, flat_map, codes}
 use Rattle.std.specs.Fmt.{decimal, signed_decimal}
-use Rattle.sel_grammar.specs.declared.grammar.Grammar.{Grammar}
 use Rattle.sel_grammar.specs.Costs.{Cost}
 use Rattle.sel_grammar.specs.SmallCosts.{IsSmall}
-use Rattle.sel_forest.specs.declared.forest.Tree.{Tree}
-use Rattle.sel_forest.specs.declared.forest.Forest.{Forest}
-use Rattle.sel_plain.specs.NodeCosts.{NodeCosts, cost_at, HasPlaces}
+use Rattle.sel_plain.specs.NodeCosts.{NodeCosts, cost_at}
 use Rattle.sel_check.specs.declared.certificate.TreeCertificate.{TreeCertificate}
 
 -- the greatest number of a cost that the text has room for

@@ -65,11 +65,7 @@ fn entry(bytes: &[u8]) -> Option<Option<Pair>>
 }
 
 /// The entries that the line spells, where it is so many.
-pub fn row(
-    alloc: Global,
-    line: &[u8],
-    width: usize,
-) -> Result<Option<List<Option<Pair>>>, NoMemory>
+pub fn row(alloc: Global, line: &[u8], width: usize) -> Result<Option<List<Option<Pair>>>, NoMemory>
     requires { 0 < width }
     ensures { IfOk result (IsReadAs (IsRow width) row_line line.now) }
 {

@@ -1,5 +1,5 @@
 -- The rules so far are kept, and the one at which the loop stops isn't.
-use Rattle.std.proofs.Common.{◌≡◌, ◌<◌, length, refl, ap, subst, arith, Some, slice_get, slice_index_or}
+use Rattle.std.proofs.Common.{◌≡◌, ◌<◌, length, refl, ap, subst, arith, slice_index_or}
 use Rattle.std.specs.Prelude.{IsTrue}
 use Rattle.std.proofs.lemmas.Option.{slice_get_read, slice_get_within}
 use Rattle.sel_check.proofs.ByNodes.{kept_more}

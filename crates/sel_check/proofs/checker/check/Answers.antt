@@ -23,7 +23,7 @@ judged-requires-clause-room c =
     let is = subst (λ x. c.tree-item.result ≡ slice_index_or x c.trees.tree-index c.tree-item.result) e c.tree-item.is in
     let short = c.requires.short in
     let room =
-        room_here c.args.grammar.now c.args.forest.now c.args.bytes.now c.trees.lines c.certificate.new.self c.trees.tree-index c.trees.number c.trees.verdict c.tree-item.result lt is c.trees.invariant c.in-Ok.certificate c.in-Ok.ensures.form c.in-Ok.ensures.lines
+    room_here c.args.grammar.now c.args.forest.now c.args.bytes.now c.trees.lines c.certificate.new.self c.trees.tree-index c.trees.number c.trees.verdict c.tree-item.result lt is c.trees.invariant c.in-Ok.certificate c.in-Ok.ensures.form c.in-Ok.ensures.lines
     in
     omega (arith, short, room)
 
@@ -49,7 +49,7 @@ pub returns-in-Proved-clause-least : goal.returns-in-Proved-clause-least
 returns-in-Proved-clause-least c =
     let end = subst (λ x. length x ≤ c.trees.tree-index) c.as_slice-tree-items.ensures c.trees-test.false in
     let proof =
-        all_proved c.args.grammar.now c.args.forest.now c.args.bytes.now c.trees.lines c.trees.tree-index c.trees.number c.trees.verdict end c.trees.invariant c.in-Proved.costs (empty_of c.trees.lines.rest.now (sym c.is_empty.ensures ∙ c.if-not-is_empty.false)) c.in-Proved.is
+    all_proved c.args.grammar.now c.args.forest.now c.args.bytes.now c.trees.lines c.trees.tree-index c.trees.number c.trees.verdict end c.trees.invariant c.in-Proved.costs (empty_of c.trees.lines.rest.now (sym c.is_empty.ensures ∙ c.if-not-is_empty.false)) c.in-Proved.is
     in
     all_least c.args.grammar.now c.args.forest.now.trees proof.certificates c.in-Proved.costs proof.proved
 

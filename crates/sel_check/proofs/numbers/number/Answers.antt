@@ -1,4 +1,4 @@
-use Rattle.std.proofs.Common.{arith, sym, ◌∙◌, true≢false}
+use Rattle.std.proofs.Common.{sym, ◌∙◌, true≢false}
 use Rattle.sel_check.proofs.Decimals.{number_read, number_none}
 use Rattle.sel_check.proofs.numbers.number.Goals as goal
 

@@ -1,6 +1,5 @@
 -- The bounds, the rules and their agreement decide.
-use Rattle.std.proofs.Common.{arith, sym, ◌∙◌, subst, ℕ, ◌<◌, ◌-◌, length, ◌≡◌, Option}
-use Rattle.sel_grammar.specs.Costs.{Cost}
+use Rattle.std.proofs.Common.{sym, ◌∙◌, subst, ℕ, ◌<◌, ◌-◌, length, ◌≡◌}
 use Rattle.sel_forest.proofs.Roots.{some_node}
 use Rattle.sel_check.specs.Bounding.{KeepsRules, IsFirstBroken}
 use Rattle.sel_check.specs.CertificateTexts.{HasSmallClaims}

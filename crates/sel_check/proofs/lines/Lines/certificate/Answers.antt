@@ -1,7 +1,7 @@
-use Rattle.std.proofs.Common.{◌++◌, ◌∷◌, [], ◌∙◌, ◌≡◌, ap, subst, length, All, map, arith, List}
+use Rattle.std.proofs.Common.{◌++◌, ◌∷◌, [], ◌∙◌, ap, subst, length, All, map, arith}
 use Rattle.sel_check.specs.CertificateTexts.{row_line, tree_line}
 use Rattle.sel_check.specs.LineReading.{IsRefusedBehind}
-use Rattle.sel_check.specs.WantedLines.{Wanted, Rules, IsRow, wanted_rows}
+use Rattle.sel_check.specs.WantedLines.{Rules, IsRow, wanted_rows}
 use Rattle.sel_check.proofs.Reading.{rows_wanted, refused_rows, refused_rules, is_for, took_room}
 use Rattle.sel_check.proofs.lines.Lines.certificate.Goals as goal
 

@@ -11,6 +11,8 @@ returns-in-Err-clause-fault c = λ others. c.in-Err.ensures.fault (Row c.args.wi
 
 pub returns-in-None-clause-fault : goal.returns-in-None-clause-fault
 returns-in-None-clause-fault c = λ others.
-    subst (IsRefusedBehind c.args.self.now (Row c.args.width ∷ others)) (sym c.wrong.ensures)
-    (refl, wrong_line c.args.self.now c.take.new.self (Row c.args.width) others c.in-Ok.line.now (row_only c.args.width) c.in-Ok.ensures.line
-    (λ (row, is, e). unread (IsRow c.args.width) row_line c.in-Ok.line.now c.in_ok-row.field-0 c.in_ok-row.ensures c.in-None.is row is e))
+    subst (IsRefusedBehind c.args.self.now (Row c.args.width ∷ others)) (sym c.wrong.ensures) (
+      refl,
+      wrong_line c.args.self.now c.take.new.self (Row c.args.width) others c.in-Ok.line.now (row_only c.args.width) c.in-Ok.ensures.line
+          (λ (row, is, e). unread (IsRow c.args.width) row_line c.in-Ok.line.now c.in_ok-row.field-0 c.in_ok-row.ensures c.in-None.is row is e),
+    )
