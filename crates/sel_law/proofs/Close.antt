@@ -1,19 +1,18 @@
 -- The table at its beginning and at its end.
-use Rattle.std.proofs.Common.{◌≡◌, ◌≢◌, ◌⊎◌, ℕ, zero, suc, ◌+◌, ◌-◌, ◌*◌, ◌^◌, ◌<◌, ◌≤◌, Bool, true, false, List, [], ◌∷◌, ◌++◌, length, set, replicate, refl, sym, ap, ◌∙◌, subst, ⊎_elim, inl, inr, arith, Option, Some, None}
+use Rattle.std.proofs.Common.{◌≡◌, ℕ, zero, suc, ◌+◌, ◌*◌, ◌≤◌, true, false, List, [], ◌∷◌, length, set, replicate, refl, sym, ap, ◌∙◌, subst, ⊎_elim, inl, inr, arith, Some, None}
 use Rattle.std.specs.Prelude.{slice_index}
 use mathlib.Core.Option.{some, some-ne-none, some-injective}
 use native.Mathlib.Decide.{ℕ_discrete}
 use lib.ListN.{get_elem?, length-replicate}
-use Rattle.atomic_table.specs.Table.{State, Final, Seen}
-use Rattle.atomic_table.proofs.Lists.{at_set, set_here, set_else}
+use Rattle.atomic_table.specs.Table.{Final, Seen}
+use Rattle.atomic_table.proofs.Lists.{set_else}
 use Rattle.sel_law.specs.declared.Setting.{Setting}
-use Rattle.sel_law.specs.declared.Ask.{Ask}
 use Rattle.sel_law.specs.declared.View.{View}
-use Rattle.sel_law.specs.Words.{weigh, In, read, used, intern_at, row_at, word_count, content, Published, published, IsMadeOf, ask_of, key_of}
-use Rattle.sel_law.specs.Law.{spent, own_count, IsTrueOf, IsInUse, Counts, Asked, IsInSomeView, Lawful, Small, owned, dropped, past, Closes}
+use Rattle.sel_law.specs.Words.{weigh, In, read, used, intern_at, row_at, word_count, Published, published, ask_of, key_of}
+use Rattle.sel_law.specs.Law.{spent, own_count, IsInUse, IsInSomeView, Lawful, Small, Closes}
 use Rattle.sel_law.specs.Kinds.{first_view}
-use Rattle.sel_law.proofs.Base.{weigh_append, weigh_set, in_nil}
-use Rattle.sel_law.proofs.Draw.{Fits, AllFit, fit_set, in_use, Holds}
+use Rattle.sel_law.proofs.Base.{weigh_set, in_nil}
+use Rattle.sel_law.proofs.Draw.{AllFit, fit_set, in_use, Holds}
 
 zero_word : (n j : ℕ) → slice_index (replicate n 0) j ≡ 0
 zero_word zero j = refl
@@ -39,12 +38,12 @@ begins z ws is small some_worker =
     record {
       small = small;
       size = ap length is ∙ length-replicate (word_count z) 0;
-      l1 = record { each = λ q lt ne. absurd (ne (zero_at (row_at z q))); differ = λ q r a b ne nf k. absurd (ne (zero_at (row_at z q))) };
-      l2 = record { each = λ p n lt e. absurd (hidden n (p, lt, e)); differ = λ p q m n a b e f k. absurd (hidden m (p, a, e)) };
+      transitions = record { each = λ q lt ne. absurd (ne (zero_at (row_at z q))); differ = λ q r a b ne nf k. absurd (ne (zero_at (row_at z q))) };
+      states = record { each = λ p n lt e. absurd (hidden n (p, lt, e)); differ = λ p q m n a b e f k. absurd (hidden m (p, a, e)) };
       views_fit = one;
-      l4 = λ i j v w n a b e f. only i j v w a b;
-      l5 = record { counter = omega arith; room = omega arith; filled = λ h. absurd (omega arith); marked = λ i v e m. absurd (true_false (sym m ∙ unmarked i v e)); seats = omega arith };
-      l7 = record { states = λ n h. absurd (hidden n h); rows = λ q lt ne. absurd (ne (zero_at (row_at z q))); places = λ j lo hi ne. absurd (ne (zero_at j)) };
+      own_apart = λ i j v w n a b e f. only i j v w a b;
+      counts = record { counter = omega arith; room = omega arith; filled = λ h. absurd (omega arith); marked = λ i v e m. absurd (true_false (sym m ∙ unmarked i v e)); seats = omega arith };
+      asked = record { states = λ n h. absurd (hidden n h); rows = λ q lt ne. absurd (ne (zero_at (row_at z q))); places = λ j lo hi ne. absurd (ne (zero_at j)) };
     }
   where
     only : (i j : ℕ) (v w : View) → get_elem? (first_view z ∷ []) i ≡ some v → get_elem? (first_view z ∷ []) j ≡ some w → i ≡ j
@@ -88,7 +87,7 @@ whole z ws views l id v at seat all =
     let others = set views id spent in
     let fit : AllFit z ws others = fit_set z ws views id spent (λ j x ne e. l.views_fit j x e) (inl refl) in
     let s0 = weigh_set (λ (x : View). x.seats + x.rest) views id v spent at in
-    let s1 = l.l5.seats in
+    let s1 = l.counts.seats in
     let none : weigh (λ (x : View). x.seats + x.rest) others ≡ 0 = omega arith in
     let a0 = weigh_set (λ (x : View). own_count x.own) views id v spent at in
     let a1 = no_seats z ws (λ (x : View). own_count x.own) refl others fit none in
@@ -101,14 +100,14 @@ whole z ws views l id v at seat all =
       small = l.small;
       size = l.size;
       setting = u.setting;
-      rows = l.l1;
-      states = l.l2;
+      rows = l.transitions;
+      states = l.states;
       true_now = u.true_now;
-      asked_states = λ n h. (let a = l.l7.states n h in (a.0, a.1, mine (λ x. In a.0 x.asked) (in_nil a.0) a.2));
-      asked_rows = λ q lt ne. mine (λ x. In (ask_of z ws (key_of (slice_index ws (row_at z q)))) x.asked) (in_nil (ask_of z ws (key_of (slice_index ws (row_at z q))))) (l.l7.rows q lt ne);
-      held = λ j lo hi ne. mine (λ x. In (j, slice_index ws j) x.places) (in_nil (j, slice_index ws j)) (l.l7.places j lo hi ne);
-      few = (let r = l.l5.room in omega arith);
-      used_up = λ h. (let p = l.l5.marked id v at h in let f = l.l5.filled p in let k = u.few h in omega arith);
+      asked_states = λ n h. (let a = l.asked.states n h in (a.0, a.1, mine (λ x. In a.0 x.asked) (in_nil a.0) a.2));
+      asked_rows = λ q lt ne. mine (λ x. In (ask_of z ws (key_of (slice_index ws (row_at z q)))) x.asked) (in_nil (ask_of z ws (key_of (slice_index ws (row_at z q))))) (l.asked.rows q lt ne);
+      held = λ j lo hi ne. mine (λ x. In (j, slice_index ws j) x.places) (in_nil (j, slice_index ws j)) (l.asked.places j lo hi ne);
+      few = (let r = l.counts.room in omega arith);
+      used_up = λ h. (let p = l.counts.marked id v at h in let f = l.counts.filled p in let k = u.few h in omega arith);
       full = u.full;
     }
   where

@@ -1,22 +1,22 @@
 -- Steps that change the own view alone, and the draw of a number.
-use Rattle.std.proofs.Common.{◌≡◌, ◌≢◌, ◌⊎◌, ℕ, zero, suc, ◌+◌, ◌-◌, ◌*◌, ◌/◌, ◌%◌, ◌^◌, ◌<◌, ◌≤◌, Bool, true, false, cond, ◌==◌, nat_lt, List, [], ◌∷◌, ◌++◌, length, set, refl, sym, ap, ◌∙◌, subst, ⊎_elim, inl, inr, arith, Option, Some, None}
+use Rattle.std.proofs.Common.{◌≡◌, ◌≢◌, ◌⊎◌, ℕ, zero, suc, ◌+◌, ◌*◌, ◌%◌, ◌^◌, ◌<◌, ◌≤◌, Bool, true, false, nat_lt, List, [], ◌∷◌, ◌++◌, length, set, refl, sym, ap, ◌∙◌, subst, ⊎_elim, inl, inr, arith, Some, None}
 use Rattle.std.specs.Prelude.{slice_index}
 use Rattle.std.proofs.lemmas.Bool.Decides.{nat_tests}
 use Rattle.std.proofs.lemmas.Bool.{ltb-true}
-use mathlib.Core.Option.{some, some-ne-none, some-injective}
+use mathlib.Core.Option.{some}
 use mathlib.Core.Logic.{dite}
 use native.Mathlib.Decide.{dec_lt}
 use lib.ListN.{get_elem?}
-use Rattle.atomic_table.specs.Table.{State, Me, Act, keeps, Allows}
-use Rattle.atomic_table.proofs.Lists.{at_longer, at_snoc, at_set, set_here, set_else}
+use Rattle.atomic_table.specs.Table.{State, Me, keeps, Allows}
+use Rattle.atomic_table.proofs.Lists.{at_snoc, at_set}
 use Rattle.sel_law.specs.declared.Setting.{Setting}
 use Rattle.sel_law.specs.declared.Ask.{Ask}
 use Rattle.sel_law.specs.declared.View.{View}
-use Rattle.sel_law.specs.Words.{IsMadeOf, weigh, In, read, used, walk, intern_at, row_at, content_at, word_count, content, Published, published}
-use Rattle.sel_law.specs.Law.{spent, own_count, IsTrueOf, Owns, Full, IsInUse, Counts, Asked, IsInSomeView, Lawful, Small, owned, dropped, past}
-use Rattle.sel_law.specs.Kinds.{first_view, drew_as, drew}
-use Rattle.sel_law.proofs.Base.{weigh_append, weigh_set, weigh_le, weigh_at, in_front, in_back, in_split, index_set, index_else, set_same, read_same, read_at}
-use Rattle.sel_law.proofs.Grow.{Grows, published_grows, transitions_same, states_same, fits_grows, asked_grows, asked_views, some_set}
+use Rattle.sel_law.specs.Words.{weigh, In, used, intern_at, row_at, content_at, word_count, content, Published, published}
+use Rattle.sel_law.specs.Law.{spent, own_count, IsTrueOf, Owns, Full, IsInUse, Counts, Lawful, owned, dropped, past}
+use Rattle.sel_law.specs.Kinds.{drew_as, drew}
+use Rattle.sel_law.proofs.Base.{weigh_set, weigh_le, in_front, index_set, index_else, read_same}
+use Rattle.sel_law.proofs.Grow.{Grows, transitions_same, states_same, fits_grows, asked_grows, asked_views, some_set}
 
 abbrev pub Fits : Setting → List ℕ → View → Type 0
 Fits z ws v = (v ≡ spent) ⊎ IsInUse z ws v
@@ -91,12 +91,12 @@ pub quiet : (z : Setting) (ws : List ℕ) (views : List View) → Lawful z ws vi
 quiet z ws views l id v w at asks places own same usage = record {
   small = l.small;
   size = l.size;
-  l1 = l.l1;
-  l2 = l.l2;
+  transitions = l.transitions;
+  states = l.states;
   views_fit = fit_set z ws views id w (λ j u ne e. l.views_fit j u e) (inr usage);
-  l4 = alone_set views id w l.l4 (λ n o. apart views id v at l.l4 n (sym own ∙ o));
-  l5 = counts_quiet z ws views id v w at same l.l5;
-  l7 = asked_views z ws views (set views id w) l.l7
+  own_apart = alone_set views id w l.own_apart (λ n o. apart views id v at l.own_apart n (sym own ∙ o));
+  counts = counts_quiet z ws views id v w at same l.counts;
+  asked = asked_views z ws views (set views id w) l.asked
       (λ a. some_set views id v w (λ u. In a u.asked) at (asks a))
       (λ e. some_set views id v w (λ u. In e u.places) at (places e));
 }
@@ -112,7 +112,7 @@ past_fits z ws v (inr u) = go v.used_up refl
 pub counter_small : (z : Setting) (ws : List ℕ) (views : List View) → Lawful z ws views → slice_index ws 0 ≤ z.states + z.workers
 counter_small z ws views l =
     let a = weigh_le (λ (v : View). v.past) (λ (v : View). v.seats + v.rest) views (λ i v e. past_fits z ws v (l.views_fit i v e)) in
-    let b = l.l5.counter in let c = l.l5.room in let d = l.l5.seats in
+    let b = l.counts.counter in let c = l.counts.room in let d = l.counts.seats in
     omega arith
 
 module _ (z : Setting) (ws : List ℕ) (m : ℕ) where
@@ -154,7 +154,7 @@ module _ (z : Setting) (ws : List ℕ) (views : List View) (l : Lawful z ws view
 
   other_fits : (j : ℕ) (u : View) → get_elem? views j ≡ some u → Fits z us u
   other_fits j u e = ⊎_elim (λ (s : u ≡ spent). inl s)
-      (λ (s : IsInUse z ws u). inr (fits_grows z ws us grows l.l1 u s (λ n o. ((λ p. (s.own n o).hidden (drawn_old z ws m n p)), (λ i lt. index_else ws 0 (content_at z n i) m (λ e. absurd (omega arith)))))))
+      (λ (s : IsInUse z ws u). inr (fits_grows z ws us grows l.transitions u s (λ n o. ((λ p. (s.own n o).hidden (drawn_old z ws m n p)), (λ i lt. index_else ws 0 (content_at z n i) m (λ e. absurd (omega arith)))))))
       (l.views_fit j u e)
 
   my_truth : IsTrueOf z us v
@@ -188,13 +188,13 @@ module _ (z : Setting) (ws : List ℕ) (views : List View) (l : Lawful z ws view
   rest_lawful w asks places own counts usage = record {
     small = l.small;
     size = length_set ws 0 m ∙ l.size;
-    l1 = transitions_same z ws us grows l.l1 (λ q lt. index_else ws 0 (row_at z q) m (λ e. absurd (omega arith)));
-    l2 = states_same z ws us grows l.l2 (λ p lt. index_else ws 0 (intern_at p) m (λ e. absurd (omega arith)));
+    transitions = transitions_same z ws us grows l.transitions (λ q lt. index_else ws 0 (row_at z q) m (λ e. absurd (omega arith)));
+    states = states_same z ws us grows l.states (λ p lt. index_else ws 0 (intern_at p) m (λ e. absurd (omega arith)));
     views_fit = fit_set z us views id w (λ j u ne e. other_fits j u e) (inr usage);
-    l4 = alone_set views id w l.l4 own;
-    l5 = counts;
-    l7 = asked_views z us views (set views id w)
-        (asked_grows z ws us grows l.l1 views l.l7
+    own_apart = alone_set views id w l.own_apart own;
+    counts = counts;
+    asked = asked_views z us views (set views id w)
+        (asked_grows z ws us grows l.transitions views l.asked
         (λ n h. inl (drawn_old z ws m n h))
         (λ q lt ne. inl (index_else ws 0 (row_at z q) m (λ e. absurd (omega arith))))
         (λ j lo hi ne. inl (index_else ws 0 j m (λ e. absurd (omega arith)))))
@@ -212,7 +212,7 @@ module _ (z : Setting) (ws : List ℕ) (views : List View) (l : Lawful z ws view
       let b = weigh_set (λ (u : View). u.dropped) views id v w at in
       let d = weigh_set (λ (u : View). u.past) views id v w at in
       let f = weigh_set (λ (u : View). u.seats + u.rest) views id v w at in
-      let c = l.l5 in let c0 = c.counter in let c1 = c.room in let c3 = c.seats in
+      let c = l.counts in let c0 = c.counter in let c1 = c.room in let c3 = c.seats in
       let c2 : 1 ≤ past views → published z ws + owned views + dropped views ≡ z.states = c.filled in
       let p = same_published in let k = count_now in let o = own_none in
       let nothing_past : past views ≡ 0 = dite (dec_lt 0 (past views)) (λ h. let x = c2 h in absurd (omega arith)) (λ no. omega arith) in
@@ -254,7 +254,7 @@ module _ (z : Setting) (ws : List ℕ) (views : List View) (l : Lawful z ws view
       owns_new n lt more e = record {
         below = lt;
         drawn = more;
-        hidden = λ p. (let old = drawn_old z ws m n p in let d = (l.l2.each old.0 n old.1 old.2).drawn in absurd (omega arith));
+        hidden = λ p. (let old = drawn_old z ws m n p in let d = (l.states.each old.0 n old.1 old.2).drawn in absurd (omega arith));
         short = omega arith;
         draft_is = λ i h. absurd (omega arith);
       }
@@ -269,7 +269,7 @@ module _ (z : Setting) (ws : List ℕ) (views : List View) (l : Lawful z ws view
       let b = weigh_set (λ (u : View). u.dropped) views id v w at in
       let d = weigh_set (λ (u : View). u.past) views id v w at in
       let f = weigh_set (λ (u : View). u.seats + u.rest) views id v w at in
-      let c = l.l5 in let c0 = c.counter in let c1 = c.room in let c3 = c.seats in
+      let c = l.counts in let c0 = c.counter in let c1 = c.room in let c3 = c.seats in
       let c2 : 1 ≤ past views → published z ws + owned views + dropped views ≡ z.states = c.filled in
       let p = same_published in let k = count_now in let o = own_none in
       let some_past : 1 ≤ past (set views id w) = omega arith in

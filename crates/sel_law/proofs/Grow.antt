@@ -1,15 +1,15 @@
 -- Words that go on: what is in use stays, and so do the contents of published numbers.
-use Rattle.std.proofs.Common.{◌≡◌, ◌≢◌, ◌⊎◌, ℕ, zero, suc, ◌+◌, ◌-◌, ◌*◌, ◌/◌, ◌%◌, ◌<◌, ◌≤◌, Bool, true, false, cond, ◌==◌, List, [], ◌∷◌, ◌++◌, length, set, refl, sym, ap, ◌∙◌, subst, ⊎_elim, inl, inr, arith, Option, Some, None}
+use Rattle.std.proofs.Common.{◌≡◌, ◌≢◌, ◌⊎◌, ℕ, zero, suc, ◌+◌, ◌*◌, ◌<◌, ◌≤◌, List, [], ◌∷◌, length, set, refl, sym, ap, ◌∙◌, subst, ⊎_elim, arith, Some}
 use Rattle.std.specs.Prelude.{slice_index}
 use mathlib.Core.Option.{some, some-ne-none, some-injective}
 use lib.ListN.{get_elem?}
-use Rattle.atomic_table.proofs.Lists.{at_longer, at_snoc, at_set, set_here, set_else}
+use Rattle.atomic_table.proofs.Lists.{set_here, set_else}
 use Rattle.sel_law.specs.declared.Setting.{Setting}
 use Rattle.sel_law.specs.declared.Ask.{Ask}
 use Rattle.sel_law.specs.declared.View.{View}
-use Rattle.sel_law.specs.Words.{IsMadeOf, node_key, key_home, content_home, weigh, In, read, used, walk, intern_at, row_at, content_at, word_count, content, Published, published, key_of, number_of, ask_of, ask_by, by_kids, EachKid, class_by, operator_of, left_of, right_of, KidsPublished, kids_of}
-use Rattle.sel_law.specs.Law.{spent, own_count, NoGap, TransitionAt, Transitions, StateAt, States, IsTrueOf, Owns, Full, IsInUse, Counts, Asked, IsInSomeView, Lawful}
-use Rattle.sel_law.proofs.Base.{in_front, in_back, in_split, index_set, index_else, read_same, read_at}
+use Rattle.sel_law.specs.Words.{IsMadeOf, node_key, key_home, content_home, In, walk, intern_at, row_at, content_at, content, Published, key_of, number_of, ask_of, ask_by, by_kids, EachKid, class_by, operator_of, left_of, right_of, KidsPublished, kids_of}
+use Rattle.sel_law.specs.Law.{NoGap, TransitionAt, Transitions, StateAt, States, IsTrueOf, Owns, Full, IsInUse, Asked, IsInSomeView}
+use Rattle.sel_law.proofs.Base.{read_at}
 
 pub made_moves : (z : Setting) (a b : Ask) (c d : List ℕ) → a ≡ b → c ≡ d → IsMadeOf z a c → IsMadeOf z b d
 made_moves z a b c d e f h = subst (λ (k : Ask). IsMadeOf z k d) e (subst (IsMadeOf z a) f h)

@@ -1,22 +1,20 @@
 -- Loads of intern words and of content words, and stores of content words.
-use Rattle.std.proofs.Common.{◌≡◌, ◌≢◌, ◌⊎◌, ℕ, zero, suc, ◌+◌, ◌-◌, ◌*◌, ◌<◌, ◌≤◌, Bool, true, false, cond, ◌==◌, List, [], ◌∷◌, ◌++◌, length, set, take, refl, sym, ap, ◌∙◌, subst, ⊎_elim, inl, inr, arith, Option, Some, None, eqb, eq-eqb, ne_eqb}
+use Rattle.std.proofs.Common.{◌≡◌, ◌≢◌, ◌⊎◌, ℕ, zero, suc, ◌+◌, ◌*◌, ◌<◌, ◌≤◌, Bool, true, false, cond, ◌==◌, List, [], ◌∷◌, ◌++◌, length, set, take, refl, sym, ap, ◌∙◌, subst, ⊎_elim, inl, inr, arith, Some, eq-eqb, ne_eqb}
 use Rattle.std.specs.Prelude.{slice_index}
-use Rattle.std.proofs.lemmas.Bool.Decides.{nat_tests}
-use mathlib.Core.Option.{some, some-ne-none, some-injective}
+use mathlib.Core.Option.{some}
 use mathlib.Core.Logic.{dite}
 use native.Mathlib.Decide.{dec_lt, ℕ_discrete}
 use lib.ListN.{get_elem?}
-use Rattle.atomic_table.specs.Table.{State, Me, Act, keeps, Allows}
-use Rattle.atomic_table.proofs.Lists.{at_longer, at_snoc, at_set, set_here, set_else}
+use Rattle.atomic_table.specs.Table.{Me, keeps, Allows}
 use Rattle.sel_law.specs.declared.Setting.{Setting}
 use Rattle.sel_law.specs.declared.Ask.{Ask}
 use Rattle.sel_law.specs.declared.View.{View}
-use Rattle.sel_law.specs.Words.{IsMadeOf, weigh, In, read, used, walk, intern_at, row_at, content_at, word_count, content, Published, published}
-use Rattle.sel_law.specs.Law.{spent, own_count, IsTrueOf, Transitions, Owns, Full, IsInUse, Counts, Asked, IsInSomeView, Lawful, Small, owned, dropped, past}
-use Rattle.sel_law.specs.Kinds.{seen, drafted, read_entry, HeldNumber, OneContent}
-use Rattle.sel_law.proofs.Base.{weigh_append, weigh_set, weigh_le, weigh_at, in_front, in_back, in_split, in_one, in_here, index_set, index_else, set_same, read_same, read_at, stretches}
+use Rattle.sel_law.specs.Words.{weigh, In, used, intern_at, row_at, content_at, word_count, Published, published}
+use Rattle.sel_law.specs.Law.{spent, own_count, IsTrueOf, Transitions, Owns, Full, IsInUse, Lawful}
+use Rattle.sel_law.specs.Kinds.{seen, drafted, HeldNumber, OneContent}
+use Rattle.sel_law.proofs.Base.{in_front, in_split, in_one, index_set, index_else, read_same, stretches}
 use Rattle.sel_law.proofs.Grow.{Grows, published_grows, transitions_same, states_same, fits_grows, asked_grows, asked_views, some_set}
-use Rattle.sel_law.proofs.Draw.{Fits, AllFit, Alone, fit_set, in_use, alone_set, apart, SameCounts, counts_quiet, quiet, Holds, length_set}
+use Rattle.sel_law.proofs.Draw.{Fits, fit_set, in_use, alone_set, apart, SameCounts, counts_quiet, quiet, Holds, length_set}
 
 -- a place that was read, among those that are held after it
 pub in_placed : (e : ℕ × ℕ) (ps : List (ℕ × ℕ)) (place found : ℕ) → In e (cond (found == 0) ps (ps ++ (place, found) ∷ [])) → In e ps ⊎ ((found ≢ 0) × ((place, found) ≡ e))
@@ -63,41 +61,6 @@ module _ (z : Setting) where
   -- what is true of the words is one
   pub one_content : (ws : List ℕ) (v : View) → IsTrueOf z ws v → OneContent v
   one_content ws v t n i w u h k = sym (t.contents (n, i, w) h).2 ∙ (t.contents (n, i, u) k).2
-
-  -- the load of a content word
-  pub reads : (slots id : ℕ) (m : Me (Unit {0}) View) (asks : List Ask) (n i : ℕ) → i < z.width → HeldNumber m.0 n → 1 ≤ m.0.seats
-      → Allows (Holds z) slots id m (content_at z n i) (λ x. x) (λ found w. (w.0 ≡ read_entry m.0 asks (content_at z n i) n i found) × (w.1 ≡ m.1) × OneContent w.0)
-  reads slots id m asks n i lt held seat s l homes at fits =
-      let v = m.0 in
-      let ws = s.words in
-      let place = content_at z n i in
-      let found = slice_index ws place in
-      let u = in_use z ws v (l.views_fit id v at) seat in
-      let w = read_entry v asks place n i found in
-      let there = held_published ws v u.setting u.true_now l.l1 n held in
-      let truth : IsTrueOf z ws w = record {
-        places = u.true_now.places;
-        contents = λ e h. ⊎_elim (λ (k : In e v.contents). u.true_now.contents e k)
-            (λ (k : In e ((n, i, found) ∷ [])). subst (λ (e : ℕ × ℕ × ℕ). Published z ws e.0 × (e.1 < z.width) × (slice_index ws (content_at z e.0 e.1) ≡ e.2)) (in_one e (n, i, found) k) (there, lt, refl))
-            (in_split e v.contents ((n, i, found) ∷ []) h);
-        known = λ e h. (let r = u.true_now.known e h in (in_front e.0 v.asked asks r.0, r.1));
-      } in (
-        w,
-        keeps,
-        tt,
-        subst (λ us. Lawful z us (set s.views id w)) (sym (set_same ws place found refl))
-            (quiet z ws s.views l id v w at (λ a h. in_front a v.asked asks h) (λ e h. h) refl (same_counts v w refl refl refl refl refl refl)
-            record {
-              setting = u.setting;
-              true_now = truth;
-              own = u.own;
-              seated = seat;
-              spare = u.spare;
-              few = u.few;
-              full = λ h r. full_more z ws v asks w (λ a k. in_front a v.asked asks k) (u.full h r);
-            }),
-        (refl, refl, one_content ws w truth),
-      )
 
 -- a draft that is cut off before the i-th word, which becomes x
 pub drafted_length : (d : List ℕ) (i x : ℕ) → i ≤ length d → length (take i d ++ x ∷ []) ≡ i + 1
@@ -180,36 +143,36 @@ module _ (z : Setting) (ws : List ℕ) (views : List View) (l : Lawful z ws view
 
   other_fits : (j : ℕ) (u : View) → j ≢ id → get_elem? views j ≡ some u → Fits z us u
   other_fits j u ne e = ⊎_elim (λ (s : u ≡ spent). inl s)
-      (λ (s : IsInUse z ws u). inr (fits_grows z ws us grows l.l1 u s (λ m o. ((λ p. (s.own m o).hidden (old m p)), (λ k lt. high m k (λ same. apart views id v at l.l4 n own j u ne e (o ∙ ap Some same)) lt)))))
+      (λ (s : IsInUse z ws u). inr (fits_grows z ws us grows l.transitions u s (λ m o. ((λ p. (s.own m o).hidden (old m p)), (λ k lt. high m k (λ same. apart views id v at l.own_apart n own j u ne e (o ∙ ap Some same)) lt)))))
       (l.views_fit j u e)
 
   my_use : IsInUse z us w
   my_use =
-      let t = Rattle.sel_law.proofs.Grow.true_grows z ws us grows l.l1 v mine.true_now in record {
+      let t = Rattle.sel_law.proofs.Grow.true_grows z ws us grows l.transitions v mine.true_now in record {
         setting = mine.setting;
         true_now = record { places = t.places; contents = t.contents; known = λ e h. (let r = t.known e h in (in_front e.0 v.asked asks r.0, r.1)) };
         own = λ m o. subst (Owns z us w.draft) (some_inj n m (sym own ∙ o)) my_draft;
         seated = seat;
         spare = mine.spare;
         few = mine.few;
-        full = λ h r. full_more z us v asks w (λ a k. in_front a v.asked asks k) (Rattle.sel_law.proofs.Grow.full_grows z ws us grows l.l1 v (mine.full h r));
+        full = λ h r. full_more z us v asks w (λ a k. in_front a v.asked asks k) (Rattle.sel_law.proofs.Grow.full_grows z ws us grows l.transitions v (mine.full h r));
       }
 
   pub draft_lawful : Lawful z us (set views id w)
   draft_lawful =
       let same : published z us ≡ published z ws = ap (weigh used) (read_same ws us 1 (2 * z.states) (λ k lt. low (1 + k) (omega arith))) in
-      let c = counts_quiet z ws views id v w at (same_counts v w refl refl refl refl refl refl) l.l5 in
+      let c = counts_quiet z ws views id v w at (same_counts v w refl refl refl refl refl refl) l.counts in
       let c0 = c.counter in let c1 = c.room in let zero_same = low 0 (omega arith) in
       record {
         small = l.small;
         size = length_set ws place x ∙ l.size;
-        l1 = transitions_same z ws us grows l.l1 (λ q lt. low (row_at z q) (omega arith));
-        l2 = states_same z ws us grows l.l2 (λ p lt. low (intern_at p) (omega arith));
+        transitions = transitions_same z ws us grows l.transitions (λ q lt. low (row_at z q) (omega arith));
+        states = states_same z ws us grows l.states (λ p lt. low (intern_at p) (omega arith));
         views_fit = fit_set z us views id w other_fits (inr my_use);
-        l4 = alone_set views id w l.l4 (λ m o. apart views id v at l.l4 m o);
-        l5 = record { counter = omega arith; room = omega arith; filled = λ h. (let f = c.filled h in omega arith); marked = c.marked; seats = c.seats };
-        l7 = asked_views z us views (set views id w)
-            (asked_grows z ws us grows l.l1 views l.l7 (λ m h. inl (old m h)) (λ q lt ne. inl (low (row_at z q) (omega arith))) (λ j lo hi ne. inl (low j hi)))
+        own_apart = alone_set views id w l.own_apart (λ m o. apart views id v at l.own_apart m o);
+        counts = record { counter = omega arith; room = omega arith; filled = λ h. (let f = c.filled h in omega arith); marked = c.marked; seats = c.seats };
+        asked = asked_views z us views (set views id w)
+            (asked_grows z ws us grows l.transitions views l.asked (λ m h. inl (old m h)) (λ q lt ne. inl (low (row_at z q) (omega arith))) (λ j lo hi ne. inl (low j hi)))
             (λ a. some_set views id v w (λ u. In a u.asked) at (λ h. in_front a v.asked asks h))
             (λ e. some_set views id v w (λ u. In e u.places) at (λ h. h));
       }

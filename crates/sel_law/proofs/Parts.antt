@@ -1,20 +1,19 @@
 -- A split and a join of seats.
-use Rattle.std.proofs.Common.{◌≡◌, ◌≢◌, ◌⊎◌, ℕ, zero, suc, ◌+◌, ◌-◌, ◌*◌, ◌<◌, ◌≤◌, Bool, true, false, List, [], ◌∷◌, ◌++◌, length, set, refl, sym, ap, ◌∙◌, subst, ⊎_elim, inl, inr, arith, Option, Some, None}
-use Rattle.std.specs.Prelude.{slice_index, ◌||◌}
+use Rattle.std.proofs.Common.{◌≡◌, ◌≢◌, ◌⊎◌, ℕ, zero, suc, ◌+◌, ◌<◌, ◌≤◌, Bool, true, false, List, [], ◌∷◌, ◌++◌, length, set, refl, sym, ap, ◌∙◌, subst, ⊎_elim, inl, inr, arith, Option, Some, None}
+use Rattle.std.specs.Prelude.{◌||◌}
 use mathlib.Core.Option.{some, some-ne-none, some-injective}
 use lib.ListN.{get_elem?}
 use native.Mathlib.Decide.{ℕ_discrete}
-use Rattle.atomic_table.specs.Table.{State, Me, Splits, Joins}
+use Rattle.atomic_table.specs.Table.{Splits, Joins}
 use Rattle.atomic_table.proofs.Lists.{at_longer, at_snoc, at_set, set_here, set_else}
 use Rattle.sel_law.specs.declared.Setting.{Setting}
-use Rattle.sel_law.specs.declared.Ask.{Ask}
 use Rattle.sel_law.specs.declared.View.{View}
-use Rattle.sel_law.specs.Words.{weigh, In, row_at, content_at, Published, published, ask_of, key_of, number_of}
-use Rattle.sel_law.specs.Law.{spent, own_count, IsTrueOf, Owns, Full, IsInUse, Counts, Asked, IsInSomeView, Lawful, Small, owned, dropped, past}
+use Rattle.sel_law.specs.Words.{In}
+use Rattle.sel_law.specs.Law.{spent, own_count, IsTrueOf, IsInUse, IsInSomeView, past}
 use Rattle.sel_law.specs.Kinds.{left_view, new_view, both_views}
-use Rattle.sel_law.proofs.Base.{weigh_append, weigh_set, weigh_at, in_front, in_back, in_split}
+use Rattle.sel_law.proofs.Base.{weigh_append, weigh_set, in_front, in_back, in_split}
 use Rattle.sel_law.proofs.Grow.{asked_views, some_set}
-use Rattle.sel_law.proofs.Draw.{Fits, AllFit, Alone, fit_set, fit_snoc, in_use, alone_set, apart, SameCounts, counts_quiet, quiet, Holds}
+use Rattle.sel_law.proofs.Draw.{Alone, fit_set, fit_snoc, in_use, alone_set, apart, Holds}
 
 no_own : (n : ℕ) → None ≡ Some n → ⊥
 no_own n e = cc
@@ -66,7 +65,7 @@ module _ (z : Setting) where
       let b' = weigh_append (λ (u : View). u.dropped) mid (new ∷ []) in
       let d' = weigh_append (λ (u : View). u.past) mid (new ∷ []) in
       let f' = weigh_append (λ (u : View). u.seats + u.rest) mid (new ∷ []) in
-      let c = l.l5 in let c0 = c.counter in let c1 = c.room in let c3 = c.seats in
+      let c = l.counts in let c0 = c.counter in let c1 = c.room in let c3 = c.seats in
       let same_past : past (mid ++ new ∷ []) ≡ past s.views = omega arith in
       let truth : (u : View) → u.places ≡ v.places → u.contents ≡ v.contents → u.known ≡ v.known → u.asked ≡ v.asked → IsTrueOf z ws u = λ u p q k h. record {
         places = λ e m. use_v.true_now.places e (subst (In e) p m);
@@ -76,14 +75,14 @@ module _ (z : Setting) where
       record {
         small = l.small;
         size = l.size;
-        l1 = l.l1;
-        l2 = l.l2;
+        transitions = l.transitions;
+        states = l.states;
         views_fit = fit_snoc z ws mid new
             (fit_set z ws s.views id left (λ j u ne e. l.views_fit j u e)
             (inr record { setting = use_v.setting; true_now = truth left refl refl refl refl; own = use_v.own; seated = seat; spare = use_v.spare; few = use_v.few; full = use_v.full }))
             (inr record { setting = use_v.setting; true_now = truth new refl refl refl refl; own = λ n e. absurd (no_own n e); seated = omega arith; spare = λ e. omega arith; few = λ e. omega arith; full = use_v.full });
-        l4 = alone_snoc mid new (alone_set s.views id left l.l4 (λ n o. apart s.views id v at l.l4 n o)) refl;
-        l5 = record {
+        own_apart = alone_snoc mid new (alone_set s.views id left l.own_apart (λ n o. apart s.views id v at l.own_apart n o)) refl;
+        counts = record {
           counter = omega arith;
           room = omega arith;
           filled = λ h. (let g = c.filled (omega arith) in omega arith);
@@ -96,7 +95,7 @@ module _ (z : Setting) where
               (at_snoc mid new u i e);
           seats = omega arith;
         };
-        l7 = asked_views z ws s.views (mid ++ new ∷ []) l.l7
+        asked = asked_views z ws s.views (mid ++ new ∷ []) l.asked
             (λ x h. some_longer mid (new ∷ []) (λ u. In x u.asked) (some_set s.views id v left (λ u. In x u.asked) at (λ y. y) h))
             (λ x h. some_longer mid (new ∷ []) (λ u. In x u.places) (some_set s.views id v left (λ u. In x u.places) at (λ y. y) h));
       }
@@ -133,7 +132,7 @@ module _ (z : Setting) where
       let b' = weigh_set (λ (u : View). u.dropped) mid other w spent there_mid in
       let d' = weigh_set (λ (u : View). u.past) mid other w spent there_mid in
       let f' = weigh_set (λ (u : View). u.seats + u.rest) mid other w spent there_mid in
-      let c = l.l5 in let c0 = c.counter in let c1 = c.room in let c3 = c.seats in
+      let c = l.counts in let c0 = c.counter in let c1 = c.room in let c3 = c.seats in
       let same_past : past (set mid other spent) ≡ past s.views = omega arith in
       let few_v = own_few v.own in let few_w = own_few w.own in
       let usage : IsInUse z ws both = record {
@@ -161,11 +160,11 @@ module _ (z : Setting) where
       record {
         small = l.small;
         size = l.size;
-        l1 = l.l1;
-        l2 = l.l2;
+        transitions = l.transitions;
+        states = l.states;
         views_fit = fit_set z ws mid other spent (λ j u ne e. fit_set z ws s.views id both (λ i x k q. l.views_fit i x q) (inr usage) j u e) (inl refl);
-        l4 = alone_set mid other spent (alone_set s.views id both l.l4 (λ n o. apart s.views id v at l.l4 n o)) (λ n o. absurd (no_own n o));
-        l5 = record {
+        own_apart = alone_set mid other spent (alone_set s.views id both l.own_apart (λ n o. apart s.views id v at l.own_apart n o)) (λ n o. absurd (no_own n o));
+        counts = record {
           counter = omega arith;
           room = omega arith;
           filled = λ h. (let g = c.filled (omega arith) in omega arith);
@@ -181,7 +180,7 @@ module _ (z : Setting) where
               (at_set mid other i spent u e);
           seats = omega arith;
         };
-        l7 = asked_views z ws s.views (set mid other spent) l.l7
+        asked = asked_views z ws s.views (set mid other spent) l.asked
             (λ x h. some_joined s.views id other v w both (λ u. In x u.asked) at there apart_ids (in_front x v.asked w.asked) (in_back x v.asked w.asked) h)
             (λ x h. some_joined s.views id other v w both (λ u. In x u.places) at there apart_ids (in_front x v.places w.places) (in_back x v.places w.places) h);
       }

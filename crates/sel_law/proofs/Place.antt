@@ -1,22 +1,22 @@
 -- The compare-exchange of a transition word.
-use Rattle.std.proofs.Common.{◌≡◌, ◌≢◌, ◌⊎◌, ℕ, zero, suc, ◌+◌, ◌-◌, ◌*◌, ◌/◌, ◌%◌, ◌^◌, ◌<◌, ◌≤◌, Bool, true, false, cond, ◌==◌, List, [], ◌∷◌, ◌++◌, length, set, refl, sym, ap, ◌∙◌, subst, ⊎_elim, inl, inr, arith, Option, Some, None, eqb, eq-eqb, ne_eqb}
+use Rattle.std.proofs.Common.{◌≡◌, ◌≢◌, ℕ, zero, suc, ◌+◌, ◌*◌, ◌/◌, ◌<◌, ◌≤◌, Bool, true, false, ◌==◌, List, [], ◌∷◌, ◌++◌, length, set, refl, sym, ap, ◌∙◌, subst, ⊎_elim, inl, inr, arith, eq-eqb, ne_eqb}
 use Rattle.std.specs.Prelude.{slice_index}
-use mathlib.Core.Option.{some, some-ne-none, some-injective}
+use mathlib.Core.Option.{some, some-ne-none}
 use mathlib.Core.Logic.{dite}
 use native.Mathlib.Decide.{dec_lt, ℕ_discrete}
 use lib.ListN.{get_elem?}
 use prog.Atomic.{either}
-use Rattle.atomic_table.specs.Table.{State, Me, Act, keeps, Allows}
-use Rattle.atomic_table.proofs.Lists.{at_longer, at_snoc, at_set, set_here, set_else}
+use Rattle.atomic_table.specs.Table.{Me, keeps, Allows}
+use Rattle.atomic_table.proofs.Lists.{set_here}
 use Rattle.sel_law.specs.declared.Setting.{Setting}
 use Rattle.sel_law.specs.declared.Ask.{Ask}
 use Rattle.sel_law.specs.declared.View.{View}
-use Rattle.sel_law.specs.Words.{IsMadeOf, key_home, weigh, In, read, used, walk, intern_at, row_at, content_at, word_count, content, Published, published, key_of, number_of, kids_of, left_of, right_of, EachKid, ask_of, KidsPublished, IsKey, word_of}
-use Rattle.sel_law.specs.Law.{spent, own_count, NoGap, IsTrueOf, Owns, Full, IsInUse, TransitionAt, Transitions, StateAt, States, Counts, Asked, IsInSomeView, Lawful, Small, owned, dropped, past}
-use Rattle.sel_law.specs.Kinds.{HeldNumber, HeldWhole, HeldKey, OtherKey, WalkedRow, looked, placed, placed_as, Learns, OneContent, Marks}
-use Rattle.sel_law.proofs.Base.{weigh_append, weigh_set, in_front, in_back, in_split, in_one, in_here, index_set, index_else, set_same, read_same, read_at, read_is}
-use Rattle.sel_law.proofs.Grow.{Grows, made_moves, published_grows, ask_grows, kids_grow, transition_grows, states_same, fits_grows, true_grows, full_grows, asked_grows, asked_views, some_set}
-use Rattle.sel_law.proofs.Draw.{Fits, AllFit, Alone, fit_set, in_use, alone_set, apart, SameCounts, counts_quiet, Holds, length_set}
+use Rattle.sel_law.specs.Words.{IsMadeOf, key_home, weigh, In, used, walk, intern_at, row_at, content_at, content, Published, published, key_of, number_of, ask_of, KidsPublished, IsKey, word_of}
+use Rattle.sel_law.specs.Law.{spent, NoGap, IsInUse, TransitionAt, Transitions, IsInSomeView, Lawful}
+use Rattle.sel_law.specs.Kinds.{HeldNumber, HeldWhole, HeldKey, WalkedRow, looked, placed, placed_as, Learns, OneContent, Marks}
+use Rattle.sel_law.proofs.Base.{in_front, in_back, in_split, in_one, in_here, index_set, index_else, set_same, read_same}
+use Rattle.sel_law.proofs.Grow.{Grows, made_moves, published_grows, ask_grows, kids_grow, transition_grows, states_same, fits_grows, asked_grows, asked_views, some_set}
+use Rattle.sel_law.proofs.Draw.{Fits, fit_set, in_use, alone_set, apart, counts_quiet, Holds, length_set}
 use Rattle.sel_law.proofs.Look.{full_more, same_counts, held_published, one_content}
 use Rattle.sel_law.proofs.Row.{held_whole, held_kids, held_ask, looked_lawful, looked_learns, looked_marks, hit_of}
 
@@ -49,10 +49,10 @@ module _ (z : Setting) (ws : List ℕ) (views : List View) (l : Lawful z ws view
   mine = in_use z ws v (l.views_fit id v at) seat
 
   there : Published z ws n
-  there = held_published z ws v mine.setting mine.true_now l.l1 n known
+  there = held_published z ws v mine.setting mine.true_now l.transitions n known
 
   small_number : n < 65536
-  small_number = let p = there in let b = (l.l2.each p.0 n p.1 p.2).below in let s = l.small.states in omega arith
+  small_number = let p = there in let b = (l.states.each p.0 n p.1 p.2).below in let s = l.small.states in omega arith
 
   here : slice_index us i ≡ new
   here = let s = l.size in index_set ws i new (omega arith)
@@ -91,7 +91,7 @@ module _ (z : Setting) (ws : List ℕ) (views : List View) (l : Lawful z ws view
       t.2 (sym (k ∙ t.3) ∙ (ap (slice_index us) same ∙ e))
 
   kids : KidsPublished z ws x
-  kids = held_kids z ws v mine.setting mine.true_now l.l1 x a held
+  kids = held_kids z ws v mine.setting mine.true_now l.transitions x a held
 
   the_ask : ask_of z us x ≡ a
   the_ask = ask_grows z ws us grows x kids ∙ held_ask z ws v mine.setting mine.true_now x a held
@@ -109,7 +109,7 @@ module _ (z : Setting) (ws : List ℕ) (views : List View) (l : Lawful z ws view
   -- no transition has the key
   no_twin : (r : ℕ) → r < z.rows → slice_index ws (row_at z r) ≢ 0 → key_of (slice_index ws (row_at z r)) ≡ x → ⊥
   no_twin r lt ne same =
-      let t = l.l1.each r lt ne in
+      let t = l.transitions.each r lt ne in
       let pl = subst (λ y. (d : ℕ) × (d < z.rows) × (r ≡ walk z.rows (key_home z y) d) × NoGap ws (row_at z 0) z.rows (key_home z y) d) same t.place in
       let h = key_home z x in
       let d = walk_here.0 in
@@ -133,7 +133,7 @@ module _ (z : Setting) (ws : List ℕ) (views : List View) (l : Lawful z ws view
         (λ same. subst (λ k. TransitionAt z us k (slice_index us (row_at z k))) (sym same) (subst (TransitionAt z us q) (sym here) new_row))
         (λ apart_rows. (
         let e = else (row_at z r) (λ e. apart_rows (omega arith)) in
-        subst (TransitionAt z us r) (sym e) (transition_grows z ws us grows r (slice_index ws (row_at z r)) lt (l.l1.each r lt (λ n. ne (e ∙ n))))));
+        subst (TransitionAt z us r) (sym e) (transition_grows z ws us grows r (slice_index ws (row_at z r)) lt (l.transitions.each r lt (λ n. ne (e ∙ n))))));
     differ = λ r s lr ls nr ns same. dite (ℕ_discrete r q)
         (λ r_new. dite (ℕ_discrete s q)
         (λ s_new. r_new ∙ sym s_new)
@@ -149,12 +149,12 @@ module _ (z : Setting) (ws : List ℕ) (views : List View) (l : Lawful z ws view
         (λ s_old. (
         let e = else (row_at z r) (λ e. r_old (omega arith)) in
         let f = else (row_at z s) (λ e. s_old (omega arith)) in
-        l.l1.differ r s lr ls (λ n. nr (e ∙ n)) (λ n. ns (f ∙ n)) (ap key_of (sym e) ∙ (same ∙ ap key_of f)))));
+        l.transitions.differ r s lr ls (λ n. nr (e ∙ n)) (λ n. ns (f ∙ n)) (ap key_of (sym e) ∙ (same ∙ ap key_of f)))));
   }
 
   other_fits : (j : ℕ) (u : View) → get_elem? views j ≡ some u → Fits z us u
   other_fits j u e = ⊎_elim (λ (s : u ≡ spent). inl s)
-      (λ (s : IsInUse z ws u). inr (fits_grows z ws us grows l.l1 u s (λ m o. ((λ h. (s.own m o).hidden (old m h)), (λ k lt. high m k)))))
+      (λ (s : IsInUse z ws u). inr (fits_grows z ws us grows l.transitions u s (λ m o. ((λ h. (s.own m o).hidden (old m h)), (λ k lt. high m k)))))
       (l.views_fit j u e)
 
   my_use : IsInUse z us w
@@ -183,20 +183,20 @@ module _ (z : Setting) (ws : List ℕ) (views : List View) (l : Lawful z ws view
   pub placed_lawful : Lawful z us (set views id w)
   placed_lawful =
       let same : published z us ≡ published z ws = ap (weigh used) (read_same ws us 1 (2 * z.states) (λ k lt. low k lt)) in
-      let c = counts_quiet z ws views id v w at (same_counts v w refl refl refl refl refl refl) l.l5 in
+      let c = counts_quiet z ws views id v w at (same_counts v w refl refl refl refl refl refl) l.counts in
       let c0 = c.counter in let c1 = c.room in let zero_same = else 0 (λ e. absurd (omega arith)) in
       let has_asked : IsInSomeView (set views id w) (λ u. In a u.asked) = (id, w, set_here views id w (len views id v at), asked) in
       let has_place : IsInSomeView (set views id w) (λ u. In (i, new) u.places) = (id, w, set_here views id w (len views id v at), in_back (i, new) v.places ((i, new) ∷ []) (in_here (i, new) [])) in
       record {
         small = l.small;
         size = length_set ws i new ∙ l.size;
-        l1 = rows;
-        l2 = states_same z ws us grows l.l2 low;
+        transitions = rows;
+        states = states_same z ws us grows l.states low;
         views_fit = fit_set z us views id w (λ j u ne e. other_fits j u e) (inr my_use);
-        l4 = alone_set views id w l.l4 (λ m o. apart views id v at l.l4 m o);
-        l5 = record { counter = omega arith; room = omega arith; filled = λ h. (let f = c.filled h in omega arith); marked = c.marked; seats = c.seats };
-        l7 = asked_grows z ws us grows l.l1 (set views id w)
-            (asked_views z ws views (set views id w) l.l7
+        own_apart = alone_set views id w l.own_apart (λ m o. apart views id v at l.own_apart m o);
+        counts = record { counter = omega arith; room = omega arith; filled = λ h. (let f = c.filled h in omega arith); marked = c.marked; seats = c.seats };
+        asked = asked_grows z ws us grows l.transitions (set views id w)
+            (asked_views z ws views (set views id w) l.asked
             (λ x. some_set views id v w (λ u. In x u.asked) at (λ h. in_front x v.asked asks h))
             (λ x. some_set views id v w (λ u. In x u.places) at (λ h. in_front x v.places ((i, new) ∷ []) h)))
             (λ m h. inl (old m h))

@@ -1,5 +1,5 @@
 -- The compare-exchange of an intern word.
-use Rattle.std.proofs.Common.{◌≡◌, ◌≢◌, ◌⊎◌, ℕ, zero, suc, ◌+◌, ◌-◌, ◌*◌, ◌%◌, ◌<◌, ◌≤◌, Bool, true, false, cond, ◌==◌, List, [], ◌∷◌, ◌++◌, length, set, take, refl, sym, ap, ◌∙◌, subst, ⊎_elim, inl, inr, arith, Option, Some, None, eqb, eq-eqb, ne_eqb}
+use Rattle.std.proofs.Common.{◌≡◌, ◌≢◌, ◌⊎◌, ℕ, zero, suc, ◌+◌, ◌*◌, ◌<◌, ◌≤◌, ◌==◌, List, [], ◌∷◌, ◌++◌, length, set, refl, sym, ap, ◌∙◌, subst, ⊎_elim, inl, inr, arith, Some, None, eq-eqb, ne_eqb}
 use Rattle.std.specs.Prelude.{slice_index}
 use Rattle.std.proofs.lemmas.Bool.Decides.{nat_tests}
 use mathlib.Core.Option.{some, some-ne-none, some-injective}
@@ -7,18 +7,17 @@ use mathlib.Core.Logic.{dite}
 use native.Mathlib.Decide.{dec_lt, ℕ_discrete}
 use lib.ListN.{get_elem?}
 use prog.Atomic.{either}
-use Rattle.atomic_table.specs.Table.{State, Me, Act, keeps, Allows}
-use Rattle.atomic_table.proofs.Lists.{at_longer, at_snoc, at_set, set_here, set_else}
+use Rattle.atomic_table.proofs.Lists.{at_set, set_here}
 use Rattle.sel_law.specs.declared.Setting.{Setting}
 use Rattle.sel_law.specs.declared.Ask.{Ask}
 use Rattle.sel_law.specs.declared.View.{View}
-use Rattle.sel_law.specs.Words.{IsMadeOf, content_home, weigh, In, read, used, walk, intern_at, row_at, content_at, word_count, content, Published, published}
-use Rattle.sel_law.specs.Law.{spent, own_count, NoGap, IsTrueOf, Owns, Full, IsInUse, StateAt, States, Counts, Asked, IsInSomeView, Lawful, Small, owned, dropped, past}
-use Rattle.sel_law.specs.Kinds.{seen, stood, stood_as, entries, HeldNumber, OtherState, WalkedStates}
-use Rattle.sel_law.proofs.Base.{weigh_append, weigh_set, weigh_le, weigh_at, weigh_read, in_front, in_back, in_split, in_one, in_here, index_set, index_else, set_same, read_same, read_at, read_is, stretches}
-use Rattle.sel_law.proofs.Grow.{Grows, published_grows, transitions_same, state_grows, states_same, fits_grows, true_grows, full_grows, asked_grows, asked_views, some_set}
-use Rattle.sel_law.proofs.Draw.{Fits, AllFit, Alone, fit_set, in_use, alone_set, apart, SameCounts, counts_quiet, quiet, Holds, length_set}
-use Rattle.sel_law.proofs.Look.{full_more, seen_lawful, other_words, in_words}
+use Rattle.sel_law.specs.Words.{IsMadeOf, content_home, In, used, walk, intern_at, row_at, content_at, content, Published}
+use Rattle.sel_law.specs.Law.{spent, own_count, NoGap, Owns, IsInUse, StateAt, States, IsInSomeView, Lawful, past}
+use Rattle.sel_law.specs.Kinds.{seen, stood, stood_as, entries, WalkedStates}
+use Rattle.sel_law.proofs.Base.{weigh_set, weigh_read, in_front, in_back, in_split, in_one, in_here, index_set, index_else, set_same, read_same, read_at, read_is}
+use Rattle.sel_law.proofs.Grow.{Grows, transitions_same, state_grows, fits_grows, true_grows, full_grows, asked_grows, asked_views, some_set}
+use Rattle.sel_law.proofs.Draw.{Fits, fit_set, in_use, alone_set, apart, length_set}
+use Rattle.sel_law.proofs.Look.{full_more, seen_lawful}
 
 some_inj : (x y : ℕ) → Some x ≡ Some y → x ≡ y
 some_inj x y e = cc
@@ -108,7 +107,7 @@ module _ (z : Setting) (ws : List ℕ) (views : List View) (l : Lawful z ws view
   -- no published number has the draft's content
   no_twin : (q m : ℕ) → q < 2 * z.states → slice_index ws (intern_at q) ≡ m + 1 → content z ws m ≡ v.draft → ⊥
   no_twin q m lt e same =
-      let s = l.l2.each q m lt e in
+      let s = l.states.each q m lt e in
       let pl = subst (λ (c : List ℕ). (d : ℕ) × (d < 2 * z.states) × (q ≡ walk (2 * z.states) (content_home z c) d) × NoGap ws 1 (2 * z.states) (content_home z c) d) same s.place in
       let h = content_home z v.draft in
       let d = walk_here.0 in
@@ -135,7 +134,7 @@ module _ (z : Setting) (ws : List ℕ) (views : List View) (l : Lawful z ws view
         (λ same. (
         let number : m ≡ n = number_there q m same e in
         subst (λ (t : ℕ × ℕ). StateAt z us t.0 t.1) (λ k. (sym same k, sym number k)) new_state))
-        (λ ne. (let e' = sym (else (intern_at q) (λ e. ne (omega arith))) ∙ e in state_grows z ws us grows q m lt e' (l.l2.each q m lt e')));
+        (λ ne. (let e' = sym (else (intern_at q) (λ e. ne (omega arith))) ∙ e in state_grows z ws us grows q m lt e' (l.states.each q m lt e')));
     differ = λ q r m k a b e f same. (
         let same' : content z ws m ≡ content z ws k = sym (same_content m) ∙ (same ∙ same_content k) in
         dite (ℕ_discrete q p)
@@ -148,20 +147,20 @@ module _ (z : Setting) (ws : List ℕ) (views : List View) (l : Lawful z ws view
         (λ r_new. (
         let number : k ≡ n = number_there r k r_new f in
         absurd (no_twin q m a (sym (else (intern_at q) (λ e. q_old (omega arith))) ∙ e) (same' ∙ (ap (content z ws) number ∙ drafted_content)))))
-        (λ r_old. l.l2.differ q r m k a b (sym (else (intern_at q) (λ e. q_old (omega arith))) ∙ e) (sym (else (intern_at r) (λ e. r_old (omega arith))) ∙ f) same')));
+        (λ r_old. l.states.differ q r m k a b (sym (else (intern_at q) (λ e. q_old (omega arith))) ∙ e) (sym (else (intern_at r) (λ e. r_old (omega arith))) ∙ f) same')));
   }
 
   other_fits : (j : ℕ) (u : View) → j ≢ id → get_elem? views j ≡ some u → Fits z us u
   other_fits j u ne e = ⊎_elim (λ (s : u ≡ spent). inl s)
-      (λ (s : IsInUse z ws u). inr (fits_grows z ws us grows l.l1 u s (λ m o. (
-        (λ h. ⊎_elim (λ (t : Published z ws m). (s.own m o).hidden t) (λ (t : m ≡ n). apart views id v at l.l4 n own j u ne e (o ∙ ap Some t)) (old m h)),
+      (λ (s : IsInUse z ws u). inr (fits_grows z ws us grows l.transitions u s (λ m o. (
+        (λ h. ⊎_elim (λ (t : Published z ws m). (s.own m o).hidden t) (λ (t : m ≡ n). apart views id v at l.own_apart n own j u ne e (o ∙ ap Some t)) (old m h)),
         (λ k lt. high m k),
       ))))
       (l.views_fit j u e)
 
   my_use : IsInUse z us w
   my_use =
-      let t = true_grows z ws us grows l.l1 v mine.true_now in
+      let t = true_grows z ws us grows l.transitions v mine.true_now in
       let one : own_count v.own ≡ 1 = ap own_count own in record {
         setting = mine.setting;
         true_now = record {
@@ -181,7 +180,7 @@ module _ (z : Setting) (ws : List ℕ) (views : List View) (l : Lawful z ws view
         seated = seat;
         spare = mine.spare;
         few = λ h. (let f = mine.few h in omega arith);
-        full = λ h r. full_more z us v asks w (λ a k. in_front a v.asked asks k) (full_grows z ws us grows l.l1 v (mine.full h r));
+        full = λ h r. full_more z us v asks w (λ a k. in_front a v.asked asks k) (full_grows z ws us grows l.transitions v (mine.full h r));
       }
 
   pub stood_lawful : Lawful z us (set views id w)
@@ -194,7 +193,7 @@ module _ (z : Setting) (ws : List ℕ) (views : List View) (l : Lawful z ws view
       let b1 = weigh_set (λ (u : View). u.dropped) views id v w at in
       let d1 = weigh_set (λ (u : View). u.past) views id v w at in
       let f1 = weigh_set (λ (u : View). u.seats + u.rest) views id v w at in
-      let c = l.l5 in let c0 = c.counter in let c1 = c.room in let c3 = c.seats in
+      let c = l.counts in let c0 = c.counter in let c1 = c.room in let c3 = c.seats in
       let zero_same = else 0 (λ e. absurd (omega arith)) in
       let same_past : past (set views id w) ≡ past views = omega arith in
       let has_asked : IsInSomeView (set views id w) (λ u. In a u.asked) = (id, w, set_here views id w (len views id v at), asked) in
@@ -202,11 +201,11 @@ module _ (z : Setting) (ws : List ℕ) (views : List View) (l : Lawful z ws view
       record {
         small = l.small;
         size = length_set ws i (n + 1) ∙ l.size;
-        l1 = transitions_same z ws us grows l.l1 (λ q lt. else (row_at z q) (λ e. absurd (omega arith)));
-        l2 = states;
+        transitions = transitions_same z ws us grows l.transitions (λ q lt. else (row_at z q) (λ e. absurd (omega arith)));
+        states = states;
         views_fit = fit_set z us views id w other_fits (inr my_use);
-        l4 = alone_set views id w l.l4 (λ m o. absurd (no_own m o));
-        l5 = record {
+        own_apart = alone_set views id w l.own_apart (λ m o. absurd (no_own m o));
+        counts = record {
           counter = omega arith;
           room = omega arith;
           filled = λ h. (let f = c.filled (omega arith) in omega arith);
@@ -216,8 +215,8 @@ module _ (z : Setting) (ws : List ℕ) (views : List View) (l : Lawful z ws view
               (at_set views id k w u e);
           seats = omega arith;
         };
-        l7 = asked_grows z ws us grows l.l1 (set views id w)
-            (asked_views z ws views (set views id w) l.l7
+        asked = asked_grows z ws us grows l.transitions (set views id w)
+            (asked_views z ws views (set views id w) l.asked
             (λ x. some_set views id v w (λ u. In x u.asked) at (λ h. in_front x v.asked asks h))
             (λ x. some_set views id v w (λ u. In x u.places) at (λ h. in_front x v.places ((i, n + 1) ∷ []) h)))
             (λ m h. ⊎_elim (λ (t : Published z ws m). inl t) (λ (t : m ≡ n). inr (a, subst (IsMadeOf z a) (sym (ap (content z us) t ∙ (same_content n ∙ drafted_content))) is_made, has_asked)) (old m h))

@@ -1,24 +1,21 @@
 -- Loads of transition words, and the compare-exchange of one.
-use Rattle.std.proofs.Common.{◌≡◌, ◌≢◌, ◌⊎◌, ℕ, zero, suc, ◌+◌, ◌-◌, ◌*◌, ◌/◌, ◌%◌, ◌<◌, ◌≤◌, Bool, true, false, cond, ◌==◌, List, [], ◌∷◌, ◌++◌, length, set, refl, sym, ap, ◌∙◌, subst, ⊎_elim, inl, inr, arith, Option, Some, None, eqb, eq-eqb, ne_eqb}
+use Rattle.std.proofs.Common.{◌≡◌, ◌≢◌, ◌⊎◌, ℕ, zero, suc, ◌+◌, ◌-◌, ◌/◌, ◌%◌, ◌<◌, ◌≤◌, Bool, true, false, cond, ◌==◌, List, [], ◌∷◌, ◌++◌, length, set, refl, sym, ap, ◌∙◌, subst, ⊎_elim, inl, inr, arith, eq-eqb}
 use Rattle.std.specs.Prelude.{slice_index, not, ◌&&◌, ◌||◌}
 use Rattle.std.proofs.lemmas.Bool.Decides.{nat_tests}
-use mathlib.Core.Option.{some, some-ne-none, some-injective}
+use mathlib.Core.Option.{some}
 use mathlib.Core.Logic.{dite}
-use native.Mathlib.Decide.{dec_lt, ℕ_discrete}
+use native.Mathlib.Decide.{ℕ_discrete}
 use lib.ListN.{get_elem?}
-use prog.Atomic.{either}
-use Rattle.atomic_table.specs.Table.{State, Me, Act, keeps, Allows}
-use Rattle.atomic_table.proofs.Lists.{at_longer, at_snoc, at_set, set_here, set_else}
 use Rattle.sel_law.specs.declared.Setting.{Setting}
 use Rattle.sel_law.specs.declared.Ask.{Ask}
 use Rattle.sel_law.specs.declared.View.{View}
-use Rattle.sel_law.specs.Words.{IsMadeOf, node_key, key_home, weigh, In, read, used, walk, intern_at, row_at, content_at, word_count, content, Published, published, key_of, number_of, kids_of, operator_of, left_of, right_of, class_by, by_kids, EachKid, ask_by, ask_of, KidsPublished, IsKey, word_of}
-use Rattle.sel_law.specs.Law.{spent, own_count, NoGap, IsTrueOf, Owns, Full, IsInUse, TransitionAt, Transitions, StateAt, States, Counts, Asked, IsInSomeView, Lawful, Small, owned, dropped, past}
-use Rattle.sel_law.specs.Kinds.{seen, entries, HeldNumber, HeldWhole, HeldKey, OtherKey, WalkedRow, other_at, all_other, is_hit, looked, placed, placed_as, Learns, OneContent, AllOther, Marks}
-use Rattle.sel_law.proofs.Base.{weigh_append, weigh_set, in_front, in_back, in_split, in_one, in_here, index_set, index_else, set_same, read_same, read_at, read_is, length_read}
-use Rattle.sel_law.proofs.Grow.{Grows, each_kid_map, ask_same, published_grows, ask_grows, kids_grow, transition_grows, transitions_same, states_same, fits_grows, true_grows, full_grows, asked_grows, asked_views, some_set}
-use Rattle.sel_law.proofs.Draw.{Fits, AllFit, Alone, fit_set, in_use, alone_set, apart, SameCounts, counts_quiet, quiet, Holds, length_set}
-use Rattle.sel_law.proofs.Look.{in_placed, placed_in, full_more, seen_truth, same_counts, held_published, one_content}
+use Rattle.sel_law.specs.Words.{IsMadeOf, node_key, In, intern_at, row_at, content_at, content, Published, key_of, number_of, kids_of, left_of, right_of, class_by, by_kids, EachKid, ask_of, KidsPublished, IsKey}
+use Rattle.sel_law.specs.Law.{IsTrueOf, Full, IsInUse, Transitions, States, Lawful}
+use Rattle.sel_law.specs.Kinds.{entries, HeldNumber, HeldWhole, HeldKey, other_at, all_other, is_hit, looked, Learns, OneContent, Marks}
+use Rattle.sel_law.proofs.Base.{in_front, in_split, in_one, read_at, read_is, length_read}
+use Rattle.sel_law.proofs.Grow.{each_kid_map, ask_same}
+use Rattle.sel_law.proofs.Draw.{in_use, quiet}
+use Rattle.sel_law.proofs.Look.{placed_in, full_more, seen_truth, same_counts, held_published, one_content}
 use Rattle.sel_law.proofs.Packed.{keys_apart}
 use Rattle.sel_law.proofs.Publish.{in_entries}
 
@@ -147,7 +144,7 @@ module _ (z : Setting) (ws : List ℕ) (views : List View) (l : Lawful z ws view
         contents = λ e h. ⊎_elim (λ (k : In e v.contents). s.contents e k)
             (λ (k : (is_hit x found ≡ true) × In e (entries (number_of found) 0 c)). (
             let hit = hit_of x found k.0 in
-            let t = l.l1.each q inside hit.0 in
+            let t = l.transitions.each q inside hit.0 in
             let r = in_entries e (number_of found) 0 c k.1 in
             let len : length c ≡ z.width = length_read ws (content_at z (number_of found) 0) z.width in
             let lt : e.1 < z.width = (let b = r.1.1 in let d = r.1.2 in omega arith) in
@@ -177,9 +174,9 @@ module _ (z : Setting) (ws : List ℕ) (views : List View) (l : Lawful z ws view
           λ k lt same. (
               let o = others k lt in
               let t = truth.places (row_at z k, o.0) o.1 in
-              let row = l.l1.each k lt (in_use_at k lt) in
-              let keys : key_of (slice_index ws (row_at z k)) ≡ x = key_injective z ws l.l2 (key_of (slice_index ws (row_at z k))) x row.kids (held_kids z ws v mine.setting mine.true_now l.l1 x a held) row.lawful_key key
-              (keys_apart z ws (λ n p. (l.l7.states n p).1.words) (key_of (slice_index ws (row_at z k))) x row.kids (held_kids z ws v mine.setting mine.true_now l.l1 x a held) (same ∙ ap node_key (sym (held_ask z ws v mine.setting mine.true_now x a held)))) in
+              let row = l.transitions.each k lt (in_use_at k lt) in
+              let keys : key_of (slice_index ws (row_at z k)) ≡ x = key_injective z ws l.states (key_of (slice_index ws (row_at z k))) x row.kids (held_kids z ws v mine.setting mine.true_now l.transitions x a held) row.lawful_key key
+              (keys_apart z ws (λ n p. (l.asked.states n p).1.words) (key_of (slice_index ws (row_at z k))) x row.kids (held_kids z ws v mine.setting mine.true_now l.transitions x a held) (same ∙ ap node_key (sym (held_ask z ws v mine.setting mine.true_now x a held)))) in
               o.2 (ap key_of (sym t.3) ∙ keys)),
         ),
       )))
@@ -192,8 +189,8 @@ module _ (z : Setting) (ws : List ℕ) (views : List View) (l : Lawful z ws view
   pub looked_learns : Learns v x a c found
   looked_learns e =
       let hit = hit_of x found e in
-      let t = l.l1.each q inside hit.0 in
-      let b = (l.l2.each t.number.0 (number_of found) t.number.1 t.number.2).below in
+      let t = l.transitions.each q inside hit.0 in
+      let b = (l.states.each t.number.0 (number_of found) t.number.1 t.number.2).below in
       let st : v.setting.states ≡ z.states = ap (λ (y : Setting). y.states) mine.setting in
       (subst (λ (s : Setting). IsMadeOf s a c) (sym mine.setting) (subst (λ (k : Ask). IsMadeOf z k c) (ap (ask_of z ws) hit.1 ∙ held_ask z ws v mine.setting mine.true_now x a held) t.made_of), omega arith)
 
@@ -207,10 +204,10 @@ module _ (z : Setting) (ws : List ℕ) (views : List View) (l : Lawful z ws view
       (λ (h : all_other v.setting w.places x v.setting.rows ≡ true). absurd (
       let others = every_other z w.places x z.rows (subst (λ (s : Setting). all_other s w.places x s.rows ≡ true) mine.setting h) in
       let t = mine.true_now.known (a, n) known in
-      let row = l.l1.each t.1.0 t.1.1 t.1.2 in
+      let row = l.transitions.each t.1.0 t.1.1 t.1.2 in
       let o = others t.1.0 t.1.1 in
       let p = truth.places (row_at z t.1.0, o.0) o.1 in
-      let keys : key_of (slice_index ws (row_at z t.1.0)) ≡ x = key_injective z ws l.l2 (key_of (slice_index ws (row_at z t.1.0))) x row.kids (held_kids z ws v mine.setting mine.true_now l.l1 x a held) row.lawful_key key
+      let keys : key_of (slice_index ws (row_at z t.1.0)) ≡ x = key_injective z ws l.states (key_of (slice_index ws (row_at z t.1.0))) x row.kids (held_kids z ws v mine.setting mine.true_now l.transitions x a held) row.lawful_key key
       (t.1.4 ∙ sym (held_ask z ws v mine.setting mine.true_now x a held)) in
       o.2 (ap key_of (sym p.3) ∙ keys)))
       (or_true v.row_full (all_other v.setting w.places x v.setting.rows) e)

@@ -1,15 +1,15 @@
 -- The kinds of step, at a word that is named by an equation.
-use Rattle.std.proofs.Common.{◌≡◌, ℕ, ◌+◌, ◌*◌, ◌<◌, ◌≤◌, ◌==◌, List, [], ◌∷◌, ◌++◌, length, sym, subst, arith, Some}
+use Rattle.std.proofs.Common.{◌≡◌, ℕ, ◌+◌, ◌*◌, ◌<◌, ◌≤◌, ◌==◌, List, ◌++◌, length, sym, subst, arith, Some}
 use prog.Atomic.{either}
 use Rattle.atomic_table.specs.Table.{Me, Allows}
 use Rattle.sel_law.specs.declared.Setting.{Setting}
 use Rattle.sel_law.specs.declared.Ask.{Ask}
 use Rattle.sel_law.specs.declared.View.{View}
 use Rattle.sel_law.specs.Words.{IsMadeOf, In, row_at, intern_at, content_at, word_count, IsKey, word_of}
-use Rattle.sel_law.specs.Kinds.{read_entry, drafted, stood_as, looked, placed_as, Tells, NotAll, Below, Learns, OneContent, Stays, Marks, HeldNumber, HeldWhole, HeldKey, WalkedStates, WalkedRow}
+use Rattle.sel_law.specs.Kinds.{read_entry, drafted, stood_as, looked, placed_as, Tells, NotAll, Below, Learns, OneContent, OneNumber, Stays, Marks, HeldNumber, HeldWhole, HeldKey, WalkedStates, WalkedRow}
 use Rattle.sel_law.proofs.Draw.{Holds}
-use Rattle.sel_law.proofs.Look.{reads, drafts, in_words}
-use Rattle.sel_law.proofs.Tell.{looks_row, stands}
+use Rattle.sel_law.proofs.Look.{drafts, in_words}
+use Rattle.sel_law.proofs.Tell.{reads, looks_row, stands}
 use Rattle.sel_law.proofs.Place.{places}
 
 pub content_inside : (z : Setting) (n i word : ℕ) → word ≡ content_at z n i → n < z.states → i < z.width → word < word_count z
@@ -19,9 +19,9 @@ pub row_inside : (z : Setting) (q word : ℕ) → word ≡ row_at z q → q < z.
 row_inside z q word e a = omega arith
 
 pub reads_at : (z : Setting) (slots id : ℕ) (m : Me (Unit {0}) View) (asks : List Ask) (n i word : ℕ) → word ≡ content_at z n i → i < z.width → HeldNumber m.0 n → 1 ≤ m.0.seats
-    → Allows (Holds z) slots id m word (λ x. x) (λ found w. (w.0 ≡ read_entry m.0 asks word n i found) × (w.1 ≡ m.1) × OneContent w.0)
+    → Allows (Holds z) slots id m word (λ x. x) (λ found w. (w.0 ≡ read_entry m.0 asks word n i found) × (w.1 ≡ m.1) × OneContent w.0 × OneNumber w.0)
 reads_at z slots id m asks n i word e lt held seat =
-    subst (λ j. Allows (Holds z) slots id m j (λ x. x) (λ found w. (w.0 ≡ read_entry m.0 asks j n i found) × (w.1 ≡ m.1) × OneContent w.0)) (sym e) (reads z slots id m asks n i lt held seat)
+    subst (λ j. Allows (Holds z) slots id m j (λ x. x) (λ found w. (w.0 ≡ read_entry m.0 asks j n i found) × (w.1 ≡ m.1) × OneContent w.0 × OneNumber w.0)) (sym e) (reads z slots id m asks n i lt held seat)
 
 pub drafts_at : (z : Setting) (slots id : ℕ) (m : Me (Unit {0}) View) (asks : List Ask) (n i word x : ℕ) → word ≡ content_at z n i → 1 ≤ m.0.seats → m.0.own ≡ Some n → i < z.width → i ≤ length m.0.draft
     → Allows (Holds z) slots id m word (λ _. x) (λ _ w. (w.0 ≡ drafted m.0 asks word i x) × (w.1 ≡ m.1))

@@ -1,10 +1,9 @@
 -- What each kind of step does to the seat's own view.
-use Rattle.std.specs.Prelude.{◌≡◌, ◌≢◌, ℕ, suc, zero, ◌+◌, ◌-◌, ◌*◌, ◌<◌, ◌≤◌, Bool, true, false, cond, ◌==◌, nat_lt, List, [], ◌∷◌, ◌++◌, length, slice_index, take, Option, Some, None, ◌||◌, ◌&&◌, not, ◌⊎◌}
-use mathlib.Core.Option.{some}
+use Rattle.std.specs.Prelude.{◌≡◌, ◌≢◌, ℕ, suc, zero, ◌+◌, ◌-◌, ◌*◌, ◌<◌, ◌≤◌, Bool, true, false, cond, ◌==◌, nat_lt, List, [], ◌∷◌, ◌++◌, length, slice_index, take, Some, None, ◌||◌, ◌&&◌, not, ◌⊎◌}
 use Rattle.sel_law.specs.declared.Setting.{Setting}
 use Rattle.sel_law.specs.declared.Ask.{Ask}
 use Rattle.sel_law.specs.declared.View.{View}
-use Rattle.sel_law.specs.Words.{IsMadeOf, key_home, content_home, In, walk, intern_at, row_at, content_at, key_of, number_of, kids_of, left_of, right_of, by_kids, ask_by, EachKid, word_of}
+use Rattle.sel_law.specs.Words.{IsMadeOf, key_home, content_home, In, walk, intern_at, row_at, key_of, number_of, kids_of, left_of, right_of, ask_by, EachKid, word_of}
 use Rattle.sel_law.specs.Law.{own_count}
 
 abbrev pub first_view : Setting → View
@@ -94,9 +93,20 @@ abbrev pub OneContent : View → Type 0
 OneContent v = (n i w u : ℕ) → In (n, i, w) v.contents → In (n, i, u) v.contents → w ≡ u
 
 -- its content c is held whole
-
 abbrev pub HeldWhole : View → ℕ → List ℕ → Type 0
 HeldWhole v n c = (length c ≡ v.setting.width) × ((i : ℕ) → i < v.setting.width → In (n, i, slice_index c i) v.contents)
+
+-- of the key c is made, and no other content
+abbrev pub OnlyMadeOf : Setting → Ask → List ℕ → Type 0
+OnlyMadeOf z a c = (d : List ℕ) → IsMadeOf z a d → d ≡ c
+
+-- The number is held as published, with the content c: each word of it is held, or the number is known for a key of which only c is made.
+abbrev pub HasContent : View → ℕ → List ℕ → Type 0
+HasContent v n c = (HeldNumber v n × HeldWhole v n c) ⊎ ((a : Ask) × In (a, n) v.known × OnlyMadeOf v.setting a c)
+
+-- a content is that of one number at most
+abbrev pub OneNumber : View → Type 0
+OneNumber v = (m n : ℕ) (c : List ℕ) → HasContent v m c → HasContent v n c → m ≡ n
 
 -- an intern word is held, and its number has another content
 abbrev pub OtherState : View → List ℕ → ℕ → Type 0
@@ -183,9 +193,9 @@ pub record Marks (v : View) (x found : ℕ) (w : View) : Type 0 where
 abbrev pub NotAll : View → ℕ → ℕ → Type 0
 NotAll v place found = found ≢ 0 → 1 ≤ v.setting.states → ((p : ℕ) → p < 2 * v.setting.states → (intern_at p ≡ place) ⊎ ((w : ℕ) × In (intern_at p, w) v.places)) → ⊥
 
--- what a look at an intern word tells of a content that is held whole: no 0 stands on its walk before its number
+-- what a look at an intern word tells of a number's content: no 0 stands on its walk before its number
 abbrev pub TellsStates : View → ℕ → ℕ → Type 0
-TellsStates v place found = (c : List ℕ) (n q : ℕ) → HeldNumber v n → HeldWhole v n c → place ≡ intern_at q → WalkedStates v c q → found ≢ 0
+TellsStates v place found = (c : List ℕ) (n q : ℕ) → HasContent v n c → place ≡ intern_at q → WalkedStates v c q → found ≢ 0
 
 -- a number that an intern word holds is below S
 abbrev pub Below : View → ℕ → ℕ → Type 0

@@ -1,11 +1,11 @@
 -- The rule of the shared table.
-use Rattle.std.specs.Prelude.{◌≡◌, ◌≢◌, ℕ, suc, zero, ◌+◌, ◌-◌, ◌*◌, ◌/◌, ◌%◌, ◌<◌, ◌≤◌, ◌^◌, ◌⊎◌, Bool, true, false, cond, ◌==◌, List, [], ◌∷◌, ◌++◌, length, slice_index, Option, Some, None}
+use Rattle.std.specs.Prelude.{◌≡◌, ◌≢◌, ℕ, ◌+◌, ◌*◌, ◌<◌, ◌≤◌, ◌^◌, ◌⊎◌, true, false, List, [], length, slice_index, Option, Some, None}
 use mathlib.Core.Option.{some}
 use lib.ListN.{get_elem?}
 use Rattle.sel_law.specs.declared.Setting.{Setting}
 use Rattle.sel_law.specs.declared.Ask.{Ask}
 use Rattle.sel_law.specs.declared.View.{View}
-use Rattle.sel_law.specs.Words.{IsMadeOf, key_home, content_home, weigh, In, read, used, walk, intern_at, row_at, content_at, word_count, content, Published, published, key_of, number_of, ask_of, node_key, KidsPublished, IsKey}
+use Rattle.sel_law.specs.Words.{IsMadeOf, key_home, content_home, weigh, In, walk, intern_at, row_at, content_at, word_count, content, Published, published, key_of, number_of, ask_of, node_key, KidsPublished, IsKey}
 
 -- what a seat that was joined into another leaves
 abbrev pub spent : View
@@ -118,15 +118,16 @@ pub record Small (z : Setting) : Type 0 where
   pub width : z.width < 2 ^ 16
   pub width_is : z.width ≡ (z.normal.value).nonterminals
 
+-- The rule: the words are of the setting's size; transitions and states are as they should be; each view fits; no two views have one own number; the counts add up; and what is published was asked for.
 pub record Lawful (z : Setting) (ws : List ℕ) (views : List View) : Type 0 where
   pub small : Small z
   pub size : length ws ≡ word_count z
-  pub l1 : Transitions z ws
-  pub l2 : States z ws
+  pub transitions : Transitions z ws
+  pub states : States z ws
   pub views_fit : (i : ℕ) (v : View) → get_elem? views i ≡ some v → (v ≡ spent) ⊎ IsInUse z ws v
-  pub l4 : (i j : ℕ) (v w : View) (n : ℕ) → get_elem? views i ≡ some v → get_elem? views j ≡ some w → v.own ≡ Some n → w.own ≡ Some n → i ≡ j
-  pub l5 : Counts z ws views
-  pub l7 : Asked z ws views
+  pub own_apart : (i j : ℕ) (v w : View) (n : ℕ) → get_elem? views i ≡ some v → get_elem? views j ≡ some w → v.own ≡ Some n → w.own ≡ Some n → i ≡ j
+  pub counts : Counts z ws views
+  pub asked : Asked z ws views
 
 -- what the closed words say, with the view that has every seat
 pub record Closes (z : Setting) (ws : List ℕ) (v : View) : Type 0 where

@@ -1,5 +1,5 @@
 -- What the shared words say: a counter, intern words, transition words and the content of each number.
-use Rattle.std.specs.Prelude.{◌≡◌, ◌≢◌, ℕ, suc, zero, ◌+◌, ◌-◌, ◌*◌, ◌/◌, ◌%◌, ◌<◌, ◌≤◌, Bool, true, false, cond, ◌==◌, List, [], ◌∷◌, ◌++◌, length, slice_index, ◌^◌, map, bit_xor}
+use Rattle.std.specs.Prelude.{◌≡◌, ℕ, suc, zero, ◌+◌, ◌-◌, ◌*◌, ◌/◌, ◌%◌, ◌<◌, ◌≤◌, cond, ◌==◌, List, [], ◌∷◌, length, slice_index, ◌^◌, map, bit_xor}
 use mathlib.Core.Option.{some}
 use lib.ListN.{get_elem?}
 use Rattle.sel_items.specs.declared.items.Items.{Items}

@@ -5,7 +5,7 @@ ghost use Rattle.std.specs.Prelude.{◌≡◌, ◌≢◌, ℕ, ◌+◌, ◌-◌,
 ghost use Rattle.sel_law.specs.Words.{word_count, intern_at, row_at, content_at, In, IsMadeOf, IsKey, word_of};
 ghost use Rattle.std.specs.Slots.{slots_items, slots_len, IsFull};
 ghost use Rattle.sel_law.specs.Law.{Lawful, spent, Small, Closes};
-ghost use Rattle.sel_law.specs.Kinds.{first_view, seen, drew, drafted, read_entry, stood_as, left_view, new_view, both_views, HeldNumber, HeldWhole, HeldKey, WalkedStates, WalkedRow, looked, placed_as, Tells, TellsStates, NotAll, Below, Learns, OneContent, Stays, Marks};
+ghost use Rattle.sel_law.specs.Kinds.{first_view, seen, drew, drafted, read_entry, stood_as, left_view, new_view, both_views, HeldNumber, HeldWhole, HeldKey, WalkedStates, WalkedRow, looked, placed_as, Tells, TellsStates, NotAll, Below, Learns, OneContent, OneNumber, Stays, Marks};
 ghost use Rattle.sel_law.specs.declared.Ask.{Ask};
 
 use atomic_table::{Closed, Join, Play, Seat, Split, Table, TableRule};
@@ -110,7 +110,7 @@ pub struct Reads<J> {
 }
 
 impl<J: Doing> Play<(), View> for Reads<J> {
-    ghost then = { λ st m found w. (w.0 ≡ read_entry m.0 J.asks st.word J.number J.index found) × (w.1 ≡ m.1) × OneContent w.0 };
+    ghost then = { λ st m found w. (w.0 ≡ read_entry m.0 J.asks st.word J.number J.index found) × (w.1 ≡ m.1) × OneContent w.0 × OneNumber w.0 };
 }
 
 pub struct Drafts<J> {
@@ -175,7 +175,7 @@ fn copy(alloc: Global, closed: &Closed<(), Global>, count: usize) -> Result<Vec<
 
 #[derive(Drop)]
 pub struct SharedWords {
-    pub table: Table<(), View, Setting, Law, Global>,
+    pub(crate) table: Table<(), View, Setting, Law, Global>,
     pub states: u64,
     pub rows: u64,
     pub width: u64,
@@ -284,7 +284,7 @@ impl SharedWords {
         requires word { word ≡ content_at self.now.table.shared.key J.number J.index }
         requires inside { (J.number < self.now.table.shared.key.states) × (J.index < self.now.table.shared.key.width) }
         requires held { HeldNumber seat.old.me.0 J.number × (1 ≤ seat.old.me.0.seats) }
-        ensures { (seat.new.table_id ≡ seat.old.table_id) × (seat.new.me ≡ (read_entry seat.old.me.0 J.asks word J.number J.index result, seat.old.me.1)) × OneContent seat.new.me.0 }
+        ensures { (seat.new.table_id ≡ seat.old.table_id) × (seat.new.me ≡ (read_entry seat.old.me.0 J.asks word J.number J.index result, seat.old.me.1)) × OneContent seat.new.me.0 × OneNumber seat.new.me.0 }
     {
         self.table.shared.load::<Reads<J>>(seat, word)
     }
@@ -305,7 +305,8 @@ impl SharedWords {
         requires of { seat.old.table_id ≡ self.now.table.shared.table_id }
         requires place { (place < 2 * self.now.table.shared.key.states) × (place < 2 ^ 63) × WalkedStates seat.old.me.0 seat.old.me.0.draft place }
         requires own { (number ≡ J.number) × (number < 2 ^ 63) × (seat.old.me.0.own ≡ Some J.number) × (1 ≤ seat.old.me.0.seats) }
-        requires whole { (length seat.old.me.0.draft ≡ self.now.table.shared.key.width) × IsMadeOf self.now.table.shared.key J.ask seat.old.me.0.draft × In J.ask (seat.old.me.0.asked ++ J.asks) }
+        requires whole { length seat.old.me.0.draft ≡ self.now.table.shared.key.width }
+        requires asked { (a : Ask) × In a (seat.old.me.0.asked ++ J.asks) × IsMadeOf self.now.table.shared.key a seat.old.me.0.draft }
         ensures { (seat.new.table_id ≡ seat.old.table_id) × (seat.new.me ≡ (stood_as (result == 0) seat.old.me.0 J.asks (intern_at place) J.number result, seat.old.me.1)) × NotAll seat.old.me.0 (intern_at place) result × Below seat.old.me.0 (intern_at place) result × OneContent seat.new.me.0 }
     {
         self.table

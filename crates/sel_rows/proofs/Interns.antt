@@ -5,7 +5,7 @@ use native.Mathlib.Decide.{ℕ_discrete}
 use Rattle.sel_law.specs.declared.Ask.{Ask}
 use Rattle.sel_law.specs.declared.View.{View}
 use Rattle.sel_law.specs.Words.{In, intern_at, walk, content_home}
-use Rattle.sel_law.specs.Kinds.{seen, HeldNumber, HeldWhole, OtherState, WalkedStates, NotAll, TellsStates}
+use Rattle.sel_law.specs.Kinds.{seen, HasContent, OtherState, WalkedStates, NotAll, TellsStates}
 use Rattle.sel_law.proofs.Base.{in_back, in_here}
 use Rattle.sel_rows.specs.Grown.{Grown, KeepsOwn, KeepsNumber}
 use Rattle.sel_rows.specs.FoundState.{Unlike, NoneHolds}
@@ -39,12 +39,15 @@ others_on asks v y g c count home at steps n e others there unlike j lt = dite (
     (λ same. subst (OtherState y c) (e ∙ ap (walk count home) (sym same)) (n, unlike.0, unlike.1, there, unlike.2, unlike.3))
     (λ ne. other_state_grown asks v y g c (walk count home j) (others j (omega arith)))
 
--- where the word is free, no number is held with the content
-pub none_holds : (v w : View) (asks : List Ask) (at found : ℕ) (c : List ℕ) → w ≡ seen v asks (intern_at at) found → found ≡ 0 → TellsStates v (intern_at at) found → WalkedStates v c at → NoneHolds w c
-none_holds v w asks at found c is free told walked n lt number whole =
+-- where the word is free, no number is known to have the content
+pub none_has : (v w : View) (asks : List Ask) (at found : ℕ) (c : List ℕ) → w ≡ seen v asks (intern_at at) found → found ≡ 0 → TellsStates v (intern_at at) found → WalkedStates v c at → (n : ℕ) → HasContent w n c → ⊥
+none_has v w asks at found c is free told walked n has =
     let same : w ≡ record v { steps = v.steps + 1; last = (v.steps + 1, intern_at at, found); asked = v.asked ++ asks } =
     is ∙ (λ i. record v { steps = v.steps + 1; last = (v.steps + 1, intern_at at, found); places = cond (eq-eqb found 0 free i) v.places (v.places ++ (intern_at at, found) ∷ []); asked = v.asked ++ asks }) in
-    told c n at (subst (λ (y : View). HeldNumber y n) same number) (subst (λ (y : View). HeldWhole y n c) same whole) refl walked free
+    told c n at (subst (λ (y : View). HasContent y n c) same has) refl walked free
+
+pub none_holds : (v w : View) (asks : List Ask) (at found : ℕ) (c : List ℕ) → w ≡ seen v asks (intern_at at) found → found ≡ 0 → TellsStates v (intern_at at) found → WalkedStates v c at → NoneHolds w c
+none_holds v w asks at found c is free told walked n lt number whole = none_has v w asks at found c is free told walked n (inl (number, whole))
 
 -- the walk can't have passed over every place
 pub never_all : (v : View) (c : List ℕ) (count home at steps found : ℕ) → count ≡ 2 * v.setting.states → 1 ≤ v.setting.states → at ≡ walk count home steps → found ≢ 0

@@ -24,21 +24,21 @@ pub record KeyFacts (v : View) (x operator class : ℕ) (a b : Option Label) (is
   pub node : node_key (held_ask v x) ≡ key_of operator class is
   pub packed : HasPackedKids (held_ask v x)
 
-held_kid : (v : View) (n : ℕ) (i : Items) → HoldsItems v n i → HeldNumber v n × HeldWhole v n (held_content v n)
+pub held_kid : (v : View) (n : ℕ) (i : Items) → HoldsItems v n i → HeldNumber v n × HeldWhole v n (held_content v n)
 held_kid v n i h = (h.number, whole_is v n h.whole)
 
 module _ (v : View) (x operator l r : ℕ) (o : operator_of x ≡ operator) (el : left_of x ≡ l) (er : right_of x ≡ r) where
-  abbrev kids_at : ℕ → Type 0
+  abbrev pub kids_at : ℕ → Type 0
   kids_at k = EachKid (λ n. HeldNumber v n × HeldWhole v n (held_content v n)) k l r
 
-  held_by : (k : ℕ) → kids_of x ≡ k → kids_at k → HeldKey v x (held_ask v x)
+  pub held_by : (k : ℕ) → kids_of x ≡ k → kids_at k → HeldKey v x (held_ask v x)
   held_by k e h = record {
     contents_of = held_content v;
     kids = subst (λ (t : ℕ × ℕ × ℕ). EachKid (λ n. HeldNumber v n × HeldWhole v n (held_content v n)) t.0 t.1 t.2) (λ i. (sym e i, sym el i, sym er i)) h;
     ask = refl;
   }
 
-  packed_by : (k : ℕ) → kids_of x ≡ k → EachKid (λ n. ArePacked (held_content v n)) k l r → HasPackedKids (held_ask v x)
+  pub packed_by : (k : ℕ) → kids_of x ≡ k → EachKid (λ n. ArePacked (held_content v n)) k l r → HasPackedKids (held_ask v x)
   packed_by k e h = subst (λ cs. (c : List ℕ) → In c cs → ArePacked c) (λ i. by_kids (sym e i) (held_content v (sym el i)) (held_content v (sym er i)))
       (each_packed (λ n. ArePacked (held_content v n)) (held_content v) (λ n p. p) k l r h)
 

@@ -38,7 +38,7 @@ module _ (normal : NormalForm) (w : View) (more : List Items) (used_up row_full 
         follows = subst (λ (y : NormalForm). Follows y (key_of operator class is) items) e (subst (λ (y : NodeKey). Follows w.setting.normal.value y items) node h.made_of.follows);
         numbered = λ t. (num, ((n, holds), (node_key k, (k, h.asked, refl), h.made_of.follows)));
         plain = λ p. absurd p;
-        tabled = λ t u r f. (tt, (n, (k, record { known = h.known; some_rows = h.some_rows; packed = kids }, sym node)));
+        tabled = λ t u r f. (tt, (n, (k, record { known = h.known; some_rows = h.some_rows; packed = kids; below = h.below; made = (held_content w n, h.made_of) }, sym node)));
       }
 
   pub labelled_content : (k : Ask) → In k w.asked → (n : ℕ) (i : Items) (c : List ℕ) → HoldsContent w c n → IsMadeOf w.setting k c → items_of c ≡ i → FitsWords i → Follows normal (key_of operator class is) i → AreNumbered a b → row_full ≡ true → Labels (Numbered n)
@@ -139,6 +139,8 @@ module _ (v w : View) (p : List Items) (operator class : ℕ) (a b : Option Labe
         known = g.grown.known (h.1.0, h.0) e.known;
         some_rows = subst (λ (s : Setting). 1 ≤ s.rows) (sym g.grown.setting) e.some_rows;
         packed = e.packed;
+        below = subst (λ (s : Setting). h.0 < s.states) (sym g.grown.setting) e.below;
+        made = ((e.made).0, subst (λ (s : Setting). IsMadeOf s h.1.0 (e.made).0) (sym g.grown.setting) (e.made).1);
       },
       h.1.2,
     ),
@@ -163,7 +165,20 @@ module _ (v w : View) (p : List Items) (operator class : ℕ) (a b : Option Labe
         let e = h.1.1 in
         let spot : Ask × ℕ = (h.1.0, h.0) in
         ⊎_elim
-        (λ (t : In spot v.known). inl (h.0, (h.1.0, record { known = t; some_rows = subst (λ (s : Setting). 1 ≤ s.rows) g.grown.setting e.some_rows; packed = e.packed }, h.1.2)))
+        (λ (t : In spot v.known). inl (
+          h.0,
+          (
+            h.1.0,
+            record {
+              known = t;
+              some_rows = subst (λ (s : Setting). 1 ≤ s.rows) g.grown.setting e.some_rows;
+              packed = e.packed;
+              below = subst (λ (s : Setting). h.0 < s.states) g.grown.setting e.below;
+              made = ((e.made).0, subst (λ (s : Setting). IsMadeOf s h.1.0 (e.made).0) g.grown.setting (e.made).1);
+            },
+            h.1.2,
+          ),
+        ))
         (λ (t : In h.1.0 g.asks). inr ((g.own h.1.0 t).0, (is, kids, h.1.2 ∙ (g.own h.1.0 t).1 is kids)))
         (g.grown.known_only spot e.known)
 

@@ -15,3 +15,6 @@ pub mod EntryReads
 pub mod Joins
 pub mod Closings
 pub mod PlainCauses
+pub mod KnownKeys
+pub mod SingleCalls
+pub mod SnapshotIs

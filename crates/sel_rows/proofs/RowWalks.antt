@@ -56,6 +56,9 @@ module _ (v w : View) (asks : List Ask) (x : ℕ) (a : Ask) (c : List ℕ) (plac
   pub last_looked : w.last ≡ (w.steps, place, found)
   last_looked = ap (λ (y : View). y.last) is ∙ ap (λ (y : View). (y.steps, place, found)) (sym is)
 
+  pub asked_looked : In a asks → In a w.asked
+  asked_looked own = subst (λ (y : View). In a y.asked) (sym is) (in_back a v.asked asks own)
+
   -- a word with the key
   pub found_looked : In a asks → 1 ≤ v.setting.rows → found ≢ 0 → key_of found ≡ x → Learns v x a c found → OneContent w → HoldsKey w a (number_of found)
   found_looked own some_rows ne e learns one =
@@ -70,7 +73,7 @@ module _ (v w : View) (asks : List Ask) (x : ℕ) (a : Ask) (c : List ℕ) (plac
       (subst (λ b. In (n, i, slice_index c i) (cond b (v.contents ++ entries n 0 c) v.contents)) (sym hit) (in_back (n, i, slice_index c i) v.contents (entries n 0 c) (entry_in n 0 i c i (omega arith) lt))) in
       let whole : HeldWhole w n c = (width, λ i lt. inside i (omega arith)) in
       record {
-        asked = subst (λ (y : View). In a y.asked) (sym is) (in_back a v.asked asks own);
+        asked = asked_looked own;
         known = known;
         some_rows = subst (λ (s : Setting). 1 ≤ s.rows) (sym set_is) some_rows;
         below = subst (λ (s : Setting). n < s.states) (sym set_is) told.1;

@@ -2,7 +2,7 @@
 use Rattle.std.specs.Prelude.{◌≡◌, ◌≢◌, ℕ, ◌*◌, ◌<◌, ◌⊎◌, List, slice_index}
 use Rattle.sel_law.specs.declared.View.{View}
 use Rattle.sel_law.specs.Words.{In, intern_at}
-use Rattle.sel_law.specs.Kinds.{HeldNumber, HeldWhole, WalkedStates}
+use Rattle.sel_law.specs.Kinds.{HeldNumber, HeldWhole, HasContent, WalkedStates}
 use Rattle.sel_rows.specs.Held.{held_content}
 use Rattle.sel_rows.specs.declared.found.Found.{Found}
 use Rattle.sel_rows.specs.declared.found.Found.TheVariants.{Number, Absent}
@@ -26,6 +26,11 @@ NoneHolds v c = (n : ℕ) → n < v.setting.states → HeldNumber v n → HeldWh
 abbrev pub FoundState : View → View → List ℕ → Found → Type 0
 FoundState u v c (Number n) = HoldsContent v c n
 FoundState u v c (Absent p) = (p < 2 * v.setting.states) × WalkedStates v c p × (u.steps < v.steps) × (v.last ≡ (v.steps, intern_at p, 0)) × NoneHolds v c
+
+-- What a walk for the content c found is all that is known of it: a number that is known to have the content is the one that was found, and where none was found there is none.
+abbrev pub FoundOnly : View → List ℕ → Found → Type 0
+FoundOnly w c (Number n) = (m : ℕ) → HasContent w m c → m ≡ n
+FoundOnly w c (Absent p) = (m : ℕ) → HasContent w m c → ⊥
 
 -- In the steps between the two views the walk over the intern row found no equal state, and none is held: the last word that was read is that of a free place, or there is no state at all.
 abbrev pub IsMissed : View → List ℕ → View → Type 0

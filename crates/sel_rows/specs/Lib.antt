@@ -16,3 +16,5 @@ pub mod Numbered
 pub mod Closing
 pub mod Counts
 pub mod PlainLabels
+pub mod Calls
+pub mod SnapshotLaws

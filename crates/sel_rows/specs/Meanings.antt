@@ -10,7 +10,7 @@ use Rattle.sel_normal.specs.NormalForms.{NormalForm}
 use Rattle.sel_items.specs.Words.{FitsWords}
 use Rattle.sel_law.specs.declared.Ask.{Ask}
 use Rattle.sel_law.specs.declared.View.{View}
-use Rattle.sel_law.specs.Words.{In, items_of, node_key, ArePacked, HasPackedKids}
+use Rattle.sel_law.specs.Words.{In, items_of, node_key, ArePacked, HasPackedKids, IsMadeOf}
 use Rattle.sel_law.specs.Kinds.{HeldNumber}
 use Rattle.sel_rows.specs.Held.{held_content, IsWhole}
 
@@ -32,11 +32,13 @@ Means v plain (Plain p) i = slice_get plain p ≡ Some i
 abbrev pub IsAsked : View → NodeKey → Type 0
 IsAsked v k = (a : Ask) × In a v.asked × (k ≡ node_key a)
 
--- a transition word of the key by words was read or written, and has the number
+-- A transition word of the key by words was read or written, and has the number, which is below the table's; and an item set that fits words follows from the key.
 pub record KnowsKey (v : View) (a : Ask) (n : ℕ) : Type 0 where
   pub known : In (a, n) v.known
   pub some_rows : 1 ≤ v.setting.rows
   pub packed : HasPackedKids a
+  pub below : n < v.setting.states
+  pub made : (c : List ℕ) × IsMadeOf v.setting a c
 
 -- the key's number is known
 abbrev pub IsKnownAs : View → NodeKey → ℕ → Type 0

@@ -1,5 +1,5 @@
 -- The parts of one table, and their seats together.
-use Rattle.std.specs.Prelude.{◌≡◌, ℕ, ◌⊎◌, true, false, List, [], None}
+use Rattle.std.specs.Prelude.{◌≡◌, ℕ, ◌⊎◌, Bool, true, false, List, [], Option, None}
 use Rattle.atomic_table.specs.Seated.{TableId}
 use Rattle.sel_normal.specs.NormalForms.{NormalForm}
 use Rattle.sel_law.specs.declared.View.{View}
@@ -8,6 +8,19 @@ use Rattle.sel_law.specs.Law.{Closes}
 use Rattle.sel_law.specs.declared.Ask.{Ask}
 use Rattle.sel_law.specs.Words.{In, weigh}
 use Rattle.sel_rows.specs.declared.part.PassPart.{PassPart}
+
+-- what the part keeps from one pass to the next: its spare number, its marks and its count
+abbrev pub part_spare : PassPart → Option ℕ
+part_spare p = p.spare
+
+abbrev pub part_used_up : PassPart → Bool
+part_used_up p = p.used_up
+
+abbrev pub part_row_full : PassPart → Bool
+part_row_full p = p.row_full
+
+abbrev pub part_evaluated : PassPart → ℕ
+part_evaluated p = p.evaluated
 
 -- the part's seat is one of the table, and its view has the table's setting
 pub record PartOf (t : TableId) (z : Setting) (p : PassPart) : Type 0 where

@@ -6,8 +6,8 @@ ghost use Rattle.sel_items.specs.Entries.{item_at};
 ghost use Rattle.sel_items.specs.Labels.{IsPlain, KidsAre};
 ghost use Rattle.sel_items.specs.Automata.{MayLabel, IsLabelled, Grows, AddsOwn, IsReady, IsHit, BeginsTree, IsRead};
 ghost use Rattle.sel_rows.specs.Counts.{CountsSteps};
-ghost use Rattle.sel_rows.specs.PlainLabels.{IsPlainFor, FindsKnownKey, KnowsOwnKey};
-ghost use Rattle.sel_rows.specs.Told.{told_of_pass, standing_of};
+ghost use Rattle.sel_rows.specs.PlainLabels.{IsPlainFor, FindsKnownKey, KnowsOwnKey, LooksIfMarked};
+ghost use Rattle.sel_rows.specs.Told.{told_of_pass, standing_of, spare_of, evaluated_of};
 
 use crate::item::plain_item;
 use crate::pass::Pass;
@@ -29,7 +29,7 @@ impl<'r> Automaton for Pass<'r> {
 
     /// Begins a tree: the item sets of plain labels are forgotten, and all else stays.
     fn begin_tree(&mut self)
-        ensures kept { (self.new.spare ≡ self.old.spare) × (self.new.evaluated ≡ self.old.evaluated) }
+        ensures kept { (spare_of self.new ≡ spare_of self.old) × (evaluated_of self.new ≡ evaluated_of self.old) }
         ensures fixed { standing_of self.new ≡ standing_of self.old }
         ensures begins { BeginsTree (told_of_pass self.old) (told_of_pass self.new) }
     {
@@ -48,10 +48,11 @@ impl<'r> Automaton for Pass<'r> {
     ) -> Result<Label, NoMemory>
         requires may { MayLabel (told_of_pass self.old) operator class kids.0 kids.1 }
         ensures known { FindsKnownKey self.old self.new operator class kids.0 kids.1 result steps.old steps.new }
+        ensures looked { LooksIfMarked self.old self.new operator class kids.0 kids.1 }
         ensures published { IfOk result (λ l. KnowsOwnKey self.old self.new operator class kids.0 kids.1 l) }
         ensures plain_where { IfOk result (λ l. IsPlain l ↔ IsPlainFor self.old self.new kids.0 kids.1 l) }
-        ensures counted { CountsSteps self.old.evaluated self.new.evaluated steps.old steps.new }
-        ensures refused { OnErr result (self.new.spare ≡ self.old.spare) }
+        ensures counted { CountsSteps (evaluated_of self.old) (evaluated_of self.new) steps.old steps.new }
+        ensures refused { OnErr result (spare_of self.new ≡ spare_of self.old) }
         ensures fixed { standing_of self.new ≡ standing_of self.old }
         ensures labelled { IfOk result (λ l. (is : List Items) → KidsAre (told_of_pass self.old).means kids.0 kids.1 is → IsLabelled (told_of_pass self.new) operator class kids.0 kids.1 is l) }
         ensures grows { Grows (told_of_pass self.old) (told_of_pass self.new) result }
@@ -67,7 +68,7 @@ impl<'r> Automaton for Pass<'r> {
     fn item(&mut self, label: Label, nonterminal: u16) -> Option<Item>
         requires label { (i : Items) × (told_of_pass self.old).means label i }
         requires nonterminal { nonterminal < (told_of_pass self.old).normal.nonterminals }
-        ensures kept { (self.new.spare ≡ self.old.spare) × (self.new.evaluated ≡ self.old.evaluated) }
+        ensures kept { (spare_of self.new ≡ spare_of self.old) × (evaluated_of self.new ≡ evaluated_of self.old) }
         ensures fixed { standing_of self.new ≡ standing_of self.old }
         ensures entry { (i : Items) → (told_of_pass self.old).means label i → result ≡ item_at i.entries nonterminal }
         ensures read { IsRead (told_of_pass self.old) (told_of_pass self.new) }

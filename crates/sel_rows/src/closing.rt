@@ -5,6 +5,7 @@ ghost use Rattle.sel_law.specs.declared.Ask.{Ask};
 ghost use Rattle.sel_law.specs.Words.{In};
 ghost use Rattle.sel_rows.specs.Parts.{AllOf, seats_of, Within, AllWithin, AskedIn};
 ghost use Rattle.sel_rows.specs.Snapshots.{IsSnapshotOf};
+ghost use Rattle.sel_rows.specs.SnapshotLaws.{IsLawfulSnapshot};
 ghost use Rattle.sel_rows.specs.Tables.{setting_of, ArePartsOf};
 ghost use Rattle.sel_rows.specs.Closing.{AreClosedWords, IsClosedBy};
 
@@ -68,6 +69,7 @@ impl Rows {
         requires of { ArePartsOf self parts }
         requires seats { seats_of parts ≡ (setting_of self).workers }
         ensures closed { IfOk result (λ s. IsClosedBy (setting_of self) parts s) }
+        ensures lawful { IfOk result (λ s. IsLawfulSnapshot (setting_of self) parts s) }
     {
         let Rows { words } = self;
         let states = words.states as usize;

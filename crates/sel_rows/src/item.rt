@@ -29,7 +29,7 @@ pub fn plain_item(plain: &[Items], place: u32, nonterminal: u16) -> Option<Item>
 
 impl<'r> Pass<'r> {
     /// The entry of a state that is held.
-    pub fn held_item(&mut self, number: u16, nonterminal: u16) -> Option<Item>
+    pub(crate) fn held_item(&mut self, number: u16, nonterminal: u16) -> Option<Item>
         requires held { (i : Items) × HoldsItems self.old.hand.seat.me.0 number i }
         requires nonterminal { nonterminal < self.old.normal.now.nonterminals }
         ensures entry { (i : Items) → HoldsItems self.old.hand.seat.me.0 number i → result ≡ item_at i.entries nonterminal }

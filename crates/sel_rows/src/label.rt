@@ -10,8 +10,8 @@ ghost use Rattle.sel_law.specs.Kinds.{HeldKey, HeldNumber, HeldWhole, WalkedRow}
 ghost use Rattle.sel_rows.specs.Grown.{Grown};
 ghost use Rattle.sel_rows.specs.Held.{held_ask};
 ghost use Rattle.sel_rows.specs.Keys.{key_number};
-ghost use Rattle.sel_rows.specs.Meanings.{Means, told_by};
-ghost use Rattle.sel_rows.specs.SeenKey.{IsSeen, FindsOwn};
+ghost use Rattle.sel_rows.specs.Meanings.{Means, KnowsKey, told_by};
+ghost use Rattle.sel_rows.specs.SeenKey.{walk_length, WalksRow, IsSeen, FindsOwn, FindsNoOther, MarksRow, LooksMarked};
 ghost use Rattle.sel_rows.specs.Counts.{CountsSteps};
 ghost use Rattle.sel_rows.specs.Answers.{GrownFor, IsPlainAfter, IsPublished, AnswersKnown, PlainCause, IsTabledAs};
 
@@ -20,16 +20,30 @@ use crate::kids::key_number;
 use crate::pass::Pass;
 use crate::words::{home_of_key, words_of};
 use sel_base::{NoMemory, Steps};
-use sel_items::laws::entries_have_rules;
+use sel_items::laws::{entries_have_rules, follows_is_one};
 use sel_items::{Label, fits};
 use sel_law::Doing;
 use std::alloc::Global;
 use std::marker::Brand;
 use std::sync::ledger::Ledger;
 
+// of a marked pass, whose row has no free word
+const MARKED_WALK: u64 = 64;
+
 impl<'r> Pass<'r> {
+    /// How many words of the row a walk looks at before it gives up.
+    fn walk_length(&self) -> u64
+        ensures { result ≡ walk_length self.now.row_full self.now.hand.rows.now.rows }
+    {
+        if self.row_full {
+            self.hand.rows.rows.min(MARKED_WALK)
+        } else {
+            self.hand.rows.rows
+        }
+    }
+
     /// Looks the key up. A row without words is full.
-    fn find_key<J: Doing>(&mut self, key: u64) -> Seen
+    pub(crate) fn find_key<J: Doing>(&mut self, key: u64) -> Seen
         requires key { (J.key ≡ key) × IsKey key × HeldKey self.old.hand.seat.me.0 key J.ask × In J.ask J.asks }
         ensures grown { Grown J.asks self.old.hand.seat.me.0 self.new.hand.seat.me.0 }
         ensures kept { (self.new.hand.rows ≡ self.old.hand.rows) × (self.new.normal ≡ self.old.normal) × (self.new.spare ≡ self.old.spare) × (self.new.evaluated ≡ self.old.evaluated) }
@@ -37,15 +51,19 @@ impl<'r> Pass<'r> {
         ensures row_full { self.old.row_full ≡ true → self.new.row_full ≡ true }
         ensures seen { IsSeen self.new.hand.seat.me.0 key J.ask self.new.row_full result }
         ensures known { FindsOwn self.old.hand.seat.me.0 J.ask self.old.row_full result }
-        ensures unmarked { (n : ℕ) → result ≡ Seen.Number n → self.new.row_full ≡ self.old.row_full }
+        ensures walked { WalksRow self.old.hand.seat.me.0 self.new.hand.seat.me.0 key J.ask self.old.row_full result }
+        ensures no_other { (n : ℕ) → In (J.ask, n) self.old.hand.seat.me.0.known → 1 ≤ self.old.hand.seat.me.0.setting.rows → FindsNoOther n result }
+        ensures marks { MarksRow self.old.row_full self.new.row_full result }
+        ensures used_up { self.new.used_up ≡ self.old.used_up }
     {
         if self.hand.rows.rows == 0 {
             self.row_full = true;
             return Seen::Full;
         }
-        match self.hand.walk::<J>(key, home_of_key(key)) {
+        let most = self.walk_length();
+        match self.hand.walk::<J>(key, home_of_key(key), most) {
             Seen::Number(number) => Seen::Number(number),
-            Seen::Absent(place) => Seen::Absent(place),
+            Seen::Absent { place } => Seen::Absent { place },
             Seen::Full => {
                 self.row_full = true;
                 Seen::Full
@@ -64,14 +82,15 @@ impl<'r> Pass<'r> {
         ensures plain { self.new.plain.items ≡ self.old.plain.items }
         ensures row_full { self.old.row_full ≡ true → self.new.row_full ≡ true }
         ensures number { IsPublished self.new.hand.seat.me.0 J.ask self.new.row_full number result }
+        ensures unplaced { seen ≡ Seen.Full → result ≡ number }
     {
         match seen {
-            Seen::Absent(place) => {
+            Seen::Absent { place } => {
                 match self
                     .hand
-                    .place::<Brand>(key, home_of_key(key), place, number)
+                    .place::<Brand>(key, home_of_key(key), place as u64, number)
                 {
-                    Placed::Known(known) => known,
+                    Placed::Known(known) => known as u64,
                     Placed::RowFull => {
                         self.row_full = true;
                         number
@@ -140,8 +159,10 @@ impl<'r> Pass<'r> {
         ensures cause { PlainCause self.old.hand.seat.me.0 self.old.spare self.old.hand.rows.now.table.shared.key J.ask self.new.used_up self.new.hand.seat.me.0 result }
         ensures counted { CountsSteps self.old.evaluated self.new.evaluated steps.old steps.new }
         ensures refused { OnErr result (self.new.spare ≡ self.old.spare) }
+        ensures known { (n : ℕ) → KnowsKey self.old.hand.seat.me.0 J.ask n → seen ≡ Seen.Full → IfOk result (λ l. l ≡ Label.Numbered n) }
         ensures steps { steps.old ≤ steps.new }
     {
+        follows_is_one();
         let items = self.evaluate_kids::<J, L>(alloc, operator, class, kids, steps)?;
         if !fits(&items) {
             return self.add_plain(items);
@@ -184,11 +205,13 @@ impl<'r> Pass<'r> {
         ensures cause { PlainCause self.old.hand.seat.me.0 self.old.spare self.old.hand.rows.now.table.shared.key J.ask self.new.used_up self.new.hand.seat.me.0 result }
         ensures counted { CountsSteps self.old.evaluated self.new.evaluated steps.old steps.new }
         ensures refused { OnErr result (self.new.spare ≡ self.old.spare) }
+        ensures known { (n : ℕ) → KnowsKey self.old.hand.seat.me.0 J.ask n → IfOk result (λ l. l ≡ Label.Numbered n) }
+        ensures looked { LooksMarked self.old.hand.seat.me.0 self.new.hand.seat.me.0 key J.ask self.old.row_full }
         ensures steps { steps.old ≤ steps.new }
     {
         let seen = self.find_key::<J>(key);
         match seen {
-            Seen::Number(number) => Ok(Label::Numbered(number as u16)),
+            Seen::Number(number) => Ok(Label::Numbered(number)),
             _ => self.answer_missed::<J, L>(alloc, operator, class, kids, key, seen, steps),
         }
     }
@@ -216,6 +239,8 @@ impl<'r> Pass<'r> {
         ensures cause { (x : ℕ) → key_number operator class kids.0 kids.1 ≡ Some x → PlainCause self.old.hand.seat.me.0 self.old.spare self.old.hand.rows.now.table.shared.key (held_ask self.old.hand.seat.me.0 x) self.new.used_up self.new.hand.seat.me.0 result }
         ensures counted { CountsSteps self.old.evaluated self.new.evaluated steps.old steps.new }
         ensures refused { OnErr result (self.new.spare ≡ self.old.spare) }
+        ensures known { (x n : ℕ) → key_number operator class kids.0 kids.1 ≡ Some x → KnowsKey self.old.hand.seat.me.0 (held_ask self.old.hand.seat.me.0 x) n → IfOk result (λ l. l ≡ Label.Numbered n) }
+        ensures looked { (x : ℕ) → key_number operator class kids.0 kids.1 ≡ Some x → LooksMarked self.old.hand.seat.me.0 self.new.hand.seat.me.0 x (held_ask self.old.hand.seat.me.0 x) self.old.row_full }
         ensures steps { steps.old ≤ steps.new }
     {
         match key_number(operator, class, kids) {

@@ -4,6 +4,7 @@
 mod automaton;
 mod closing;
 mod evaluation;
+mod finding;
 mod found;
 mod hand;
 mod item;
@@ -14,6 +15,7 @@ mod part;
 mod parts;
 mod pass;
 mod publish;
+mod publishing;
 mod reading;
 mod row;
 mod rows;
@@ -22,7 +24,7 @@ mod states;
 mod telling;
 mod words;
 
-pub use found::{Found, Placed, Seen, Won};
+pub use found::{Draw, Found, Placed, Seen, Won};
 pub use part::PassPart;
 pub use pass::Pass;
 pub use rows::Rows;

@@ -1,7 +1,7 @@
 //! Parts of a table: given to passes and taken back, split and joined.
 ghost use Rattle.std.specs.Prelude.{◌≡◌, ◌≤◌, [], None};
-ghost use Rattle.sel_rows.specs.Told.{Standing, pass_view, standing_of};
-ghost use Rattle.sel_rows.specs.Parts.{PartOf};
+ghost use Rattle.sel_rows.specs.Told.{Standing, pass_view, standing_of, told_of_pass, evaluated_of, plain_of};
+ghost use Rattle.sel_rows.specs.Parts.{PartOf, part_spare, part_used_up, part_row_full, part_evaluated};
 ghost use Rattle.sel_rows.specs.Tables.{id_of, setting_of, view_of, IsPartOf, IsPassOf, AreSplit, IsJoined};
 
 use crate::hand::Hand;
@@ -17,7 +17,7 @@ impl<'r> Pass<'r> {
         requires normal { (setting_of rows.now).normal.value ≡ normal.now }
         ensures standing { standing_of result ≡ record { table = id_of rows.now; setting = setting_of rows.now; seats = (view_of part).seats; rest = (view_of part).rest } }
         ensures part { IsPassOf part result }
-        ensures none_plain { result.plain.items ≡ [] }
+        ensures none_plain { plain_of result ≡ [] }
     {
         let PassPart {
             alloc,
@@ -70,21 +70,21 @@ impl<'r> Pass<'r> {
 
     /// Whether a draw gave no number.
     pub fn used_up(&self) -> bool
-        ensures { result ≡ self.now.used_up }
+        ensures { result ≡ (told_of_pass self.now).used_up }
     {
         self.used_up
     }
 
     /// Whether a walk saw every word of the row in use with another key.
     pub fn row_full(&self) -> bool
-        ensures { result ≡ self.now.row_full }
+        ensures { result ≡ (told_of_pass self.now).row_full }
     {
         self.row_full
     }
 
     /// How many calls of `label` took a step of the counter.
     pub fn evaluated(&self) -> u64
-        ensures { result ≡ self.now.evaluated }
+        ensures { result ≡ evaluated_of self.now }
     {
         self.evaluated
     }
@@ -94,7 +94,7 @@ impl PassPart {
     /// The old part, and a new one that has seen the same.
     pub fn split(self, rows: &Rows) -> (PassPart, PassPart)
         requires of { IsPartOf rows.now self }
-        requires no_number { self.spare ≡ None }
+        requires no_number { part_spare self ≡ None }
         requires left { 1 ≤ (view_of self).rest }
         ensures of { IsPartOf rows.now result.0 × IsPartOf rows.now result.1 }
         ensures split { AreSplit self result.0 result.1 }
@@ -163,21 +163,21 @@ impl PassPart {
 
     /// Whether a draw gave no number.
     pub fn used_up(&self) -> bool
-        ensures { result ≡ self.now.used_up }
+        ensures { result ≡ part_used_up self.now }
     {
         self.used_up
     }
 
     /// Whether a walk saw every word of the row in use with another key.
     pub fn row_full(&self) -> bool
-        ensures { result ≡ self.now.row_full }
+        ensures { result ≡ part_row_full self.now }
     {
         self.row_full
     }
 
     /// How many calls of `label` took a step of the counter.
     pub fn evaluated(&self) -> u64
-        ensures { result ≡ self.now.evaluated }
+        ensures { result ≡ part_evaluated self.now }
     {
         self.evaluated
     }

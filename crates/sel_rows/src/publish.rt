@@ -1,5 +1,6 @@
 //! Draws, drafts and the publication of a state.
-ghost use Rattle.std.specs.Prelude.{◌≡◌, ◌≢◌, ℕ, ◌+◌, ◌*◌, ◌%◌, ◌<◌, ◌≤◌, ◌^◌, List, [], ◌∷◌, length, slice_index, take, true, false, Some, None, ◌==◌};
+ghost use Rattle.std.specs.Prelude.{◌≡◌, ◌≢◌, ℕ, ◌+◌, ◌*◌, ◌%◌, ◌<◌, ◌≤◌, ◌^◌, List, [], ◌∷◌, ◌++◌, length, slice_index, take, true, false, Some, None, ◌==◌};
+ghost use Rattle.sel_law.specs.declared.Ask.{Ask};
 ghost use Rattle.sel_law.specs.Words.{content_home, content_at, intern_at, In, IsMadeOf};
 ghost use Rattle.sel_law.specs.Kinds.{HeldNumber, HeldWhole, WalkedStates, OneContent, drew, drafted, stood_as, NotAll, Below};
 ghost use Rattle.sel_rows.specs.Grown.{Grown, KeepsOwn};
@@ -53,10 +54,11 @@ impl<'r> Hand<'r> {
 
     /// The compare-exchange of an intern word.
     fn stand<J: Doing>(&mut self, place: u64, number: u64) -> u64
-        requires about { (J.number ≡ number) × (number < 2 ^ 63) × In J.ask J.asks }
+        requires about { (J.number ≡ number) × (number < 2 ^ 63) }
         requires own { self.old.seat.me.0.own ≡ Some number }
         requires place { (place < 2 * self.old.rows.now.states) × WalkedStates self.old.seat.me.0 self.old.seat.me.0.draft place }
-        requires whole { (length self.old.seat.me.0.draft ≡ self.old.rows.now.width) × IsMadeOf self.old.rows.now.table.shared.key J.ask self.old.seat.me.0.draft }
+        requires whole { length self.old.seat.me.0.draft ≡ self.old.rows.now.width }
+        requires asked { (a : Ask) × In a (self.old.seat.me.0.asked ++ J.asks) × IsMadeOf self.old.rows.now.table.shared.key a self.old.seat.me.0.draft }
         ensures view { self.new.seat.me.0 ≡ stood_as (result == 0) self.old.seat.me.0 J.asks (intern_at place) number result }
         ensures told { NotAll self.old.seat.me.0 (intern_at place) result × Below self.old.seat.me.0 (intern_at place) result × OneContent self.new.seat.me.0 }
         ensures same { self.new.rows ≡ self.old.rows }
@@ -67,7 +69,7 @@ impl<'r> Hand<'r> {
 
     /// Publishes a state under the own number, from the place where its walk ended.
     pub fn publish<J: Doing>(&mut self, number: u64, items: &[u64], place: u64) -> Won
-        requires asked { In J.ask J.asks × IsMadeOf self.old.rows.now.table.shared.key J.ask items.now }
+        requires asked { (a : Ask) × In a (self.old.seat.me.0.asked ++ J.asks) × IsMadeOf self.old.rows.now.table.shared.key a items.now }
         requires items { (length items.now ≡ self.old.rows.now.width) × (1 ≤ length items.now) }
         requires walked { (place < 2 * self.old.rows.now.states) × WalkedStates self.old.seat.me.0 items.now place }
         requires own { (self.old.seat.me.0.own ≡ Some number) × (number < self.old.rows.now.states) }
@@ -84,10 +86,10 @@ impl<'r> Hand<'r> {
         while left > 0 {
             let found = self.stand::<Brand>(at, number);
             if found == 0 {
-                return Won::Own(number);
+                return Won::Own(number as u16);
             }
             if !self.differs::<Brand>(found - 1, items) {
-                return Won::Lost(found - 1);
+                return Won::Lost((found - 1) as u16);
             }
             left -= 1;
             at = if at + 1 == count { 0 } else { at + 1 };

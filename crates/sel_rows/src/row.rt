@@ -10,31 +10,31 @@ use crate::hand::Hand;
 use sel_law::Doing;
 
 impl<'r> Hand<'r> {
-    /// Walks the row from the key's home.
-    pub fn walk<J: Doing>(&mut self, key: u64, home: u64) -> Seen
+    /// Walks the row from the key's home, over `most` words at most.
+    pub fn walk<J: Doing>(&mut self, key: u64, home: u64, most: u64) -> Seen
         requires key { (J.key ≡ key) × IsKey key × HeldKey self.old.seat.me.0 key J.ask × In J.ask J.asks }
         requires home { (home ≡ key_home self.old.rows.now.table.shared.key key) × (home < 2 ^ 32) }
-        requires rows { 1 ≤ self.old.rows.now.rows }
+        requires rows { (1 ≤ most) × (most ≤ self.old.rows.now.rows) }
         ensures grown { Grown J.asks self.old.seat.me.0 self.new.seat.me.0 }
         ensures own { KeepsNumber self.old.seat.me.0 self.new.seat.me.0 }
         ensures same { self.new.rows ≡ self.old.rows }
-        ensures found { FoundRow self.old.seat.me.0 self.new.seat.me.0 key J.ask result }
+        ensures found { FoundRow self.old.seat.me.0 self.new.seat.me.0 key J.ask most result }
         ensures full { MarksFull self.old.seat.me.0 self.new.seat.me.0 result }
-        ensures known { FindsKnown self.old.seat.me.0 J.ask result }
+        ensures known { (n : ℕ) → In (J.ask, n) self.old.seat.me.0.known → FindsKnown self.old.seat.me.0 most n result }
     {
         let rows = self.rows.rows;
         let base = 1 + 2 * self.rows.states;
         let mut at = home % rows;
         let mut steps = 0;
-        while steps < rows {
+        while steps < most {
             let found = self
                 .rows
                 .look_row_as::<J>(&mut self.seat, (base + at) as usize);
             if found == 0 {
-                return Seen::Absent(at);
+                return Seen::Absent { place: at as u32 };
             }
             if found / 65536 == key {
-                return Seen::Number(found % 65536);
+                return Seen::Number((found % 65536) as u16);
             }
             steps += 1;
             at = if at + 1 == rows { 0 } else { at + 1 };
@@ -53,7 +53,7 @@ impl<'r> Hand<'r> {
         ensures own { KeepsNumber self.old.seat.me.0 self.new.seat.me.0 }
         ensures same { self.new.rows ≡ self.old.rows }
         ensures full { MarksPlaced self.old.seat.me.0 self.new.seat.me.0 result }
-        ensures placed { FoundPlace self.new.seat.me.0 J.ask result }
+        ensures placed { FoundPlace self.new.seat.me.0 key J.ask result }
     {
         let rows = self.rows.rows;
         let base = 1 + 2 * self.rows.states;
@@ -70,10 +70,10 @@ impl<'r> Hand<'r> {
                 .rows
                 .place_as::<J>(&mut self.seat, (base + at) as usize, new);
             if found == 0 {
-                return Placed::Known(number);
+                return Placed::Known(number as u16);
             }
             if found / 65536 == key {
-                return Placed::Known(found % 65536);
+                return Placed::Known((found % 65536) as u16);
             }
             steps += 1;
             at = if at + 1 == rows { 0 } else { at + 1 };

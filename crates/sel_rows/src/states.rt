@@ -2,10 +2,10 @@
 ghost use Rattle.std.specs.Prelude.{◌≡◌, ◌≢◌, ℕ, ◌+◌, ◌*◌, ◌%◌, ◌<◌, ◌≤◌, ◌^◌, List, [], ◌∷◌, length, slice_index, true, false, IfOk};
 ghost use Rattle.sel_law.specs.declared.Ask.{Ask};
 ghost use Rattle.sel_law.specs.Words.{content_home, content_at, intern_at, In, items_of};
-ghost use Rattle.sel_law.specs.Kinds.{HeldNumber, HeldWhole, OneContent, NotAll, Below, TellsStates, seen};
+ghost use Rattle.sel_law.specs.Kinds.{HeldNumber, HeldWhole, OneContent, OneNumber, NotAll, Below, TellsStates, seen};
 ghost use Rattle.sel_rows.specs.Grown.{Grown, KeepsOwn};
 ghost use Rattle.sel_rows.specs.Held.{held_content, IsWhole, IsRead};
-ghost use Rattle.sel_rows.specs.FoundState.{Unlike, FoundState};
+ghost use Rattle.sel_rows.specs.FoundState.{Unlike, FoundState, FoundOnly};
 
 use crate::found::Found;
 use crate::hand::Hand;
@@ -25,6 +25,7 @@ impl<'r> Hand<'r> {
         ensures own { KeepsOwn self.old.seat.me.0 self.new.seat.me.0 }
         ensures same { self.new.rows ≡ self.old.rows }
         ensures there { In (number, index, result) self.new.seat.me.0.contents × OneContent self.new.seat.me.0 }
+        ensures numbers { OneNumber self.new.seat.me.0 }
         ensures exact { IsRead self.old.seat.me.0 J.asks number index result self.new.seat.me.0 }
     {
         let first = 1 + 2 * self.rows.states + self.rows.rows;
@@ -60,6 +61,7 @@ impl<'r> Hand<'r> {
         ensures own { KeepsOwn self.old.seat.me.0 self.new.seat.me.0 }
         ensures same { self.new.rows ≡ self.old.rows }
         ensures other { result ≡ true → Unlike self.new.seat.me.0 number items.now }
+        ensures numbers { result ≡ false → OneNumber self.new.seat.me.0 }
         ensures equal { result ≡ false → HeldWhole self.new.seat.me.0 number items.now × (held_content self.new.seat.me.0 number ≡ items.now) }
     {
         let mut index = 0;
@@ -93,6 +95,7 @@ impl<'r> Hand<'r> {
         ensures own { KeepsOwn self.old.seat.me.0 self.new.seat.me.0 }
         ensures same { self.new.rows ≡ self.old.rows }
         ensures found { FoundState self.old.seat.me.0 self.new.seat.me.0 items.now result }
+        ensures only { FoundOnly self.new.seat.me.0 items.now result }
         ensures stepped { (b : Ask) → In b J.asks → In b self.new.seat.me.0.asked }
     {
         let count = 2 * self.rows.states;
@@ -101,10 +104,10 @@ impl<'r> Hand<'r> {
         while steps < count {
             let found = self.look::<Brand>(at);
             if found == 0 {
-                return Found::Absent(at);
+                return Found::Absent { place: at as u32 };
             }
             if !self.differs::<Brand>(found - 1, items) {
-                return Found::Number(found - 1);
+                return Found::Number((found - 1) as u16);
             }
             steps += 1;
             at = if at + 1 == count { 0 } else { at + 1 };

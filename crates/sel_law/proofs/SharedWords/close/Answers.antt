@@ -1,6 +1,6 @@
 use Rattle.std.proofs.Common.{◌≡◌, sym, subst, arith, Result, Ok, Err}
 use Rattle.std.specs.Prelude.{IfOk}
-use Rattle.std.specs.Slots.{slots_items, slots_len}
+use Rattle.std.specs.Slots.{slots_items}
 use Rattle.sel_law.specs.Law.{Closes}
 use Rattle.sel_law.proofs.Close.{closes}
 use Rattle.sel_law.proofs.SharedWords.close.Goals as goal

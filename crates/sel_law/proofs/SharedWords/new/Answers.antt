@@ -1,5 +1,4 @@
-use Rattle.std.proofs.Common.{◌≡◌, replicate, ap, ◌∙◌, arith}
-use Rattle.sel_law.specs.Words.{word_count}
+use Rattle.std.proofs.Common.{◌∙◌}
 use Rattle.sel_law.proofs.Close.{begins}
 use Rattle.sel_law.proofs.SharedWords.new.Goals as goal
 

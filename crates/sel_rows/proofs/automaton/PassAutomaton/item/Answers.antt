@@ -1,4 +1,4 @@
-use Rattle.std.proofs.Common.{◌≡◌, ◌≤◌, List, [], length, sym, ap, ◌∙◌, subst}
+use Rattle.std.proofs.Common.{◌≡◌, ◌<◌, ◌≤◌, List, [], length, sym, ap, ◌∙◌, subst}
 use Rattle.sel_items.specs.declared.items.Items.{Items}
 use Rattle.sel_items.specs.declared.label.Label.{Label}
 use Rattle.sel_items.specs.declared.label.Label.TheVariants.{Numbered, Plain}
@@ -6,7 +6,7 @@ use Rattle.sel_items.specs.Labels.{IsPlain}
 use Rattle.sel_items.specs.Follows.{NodeKey}
 use Rattle.sel_law.specs.declared.Setting.{Setting}
 use Rattle.sel_law.specs.declared.View.{View}
-use Rattle.sel_law.specs.Words.{In}
+use Rattle.sel_law.specs.Words.{In, IsMadeOf}
 use Rattle.sel_rows.specs.Meanings.{Means, IsAsked, IsKnown}
 use Rattle.sel_rows.proofs.Contents.{held_stays}
 use Rattle.sel_rows.proofs.Steps.{means_keep}
@@ -21,6 +21,8 @@ known_same v w e s k h = let f = h.1.1 in (
       known = subst (In (h.1.0, h.0)) (sym e) f.known;
       some_rows = subst (λ (y : Setting). 1 ≤ y.rows) (sym s) f.some_rows;
       packed = f.packed;
+      below = subst (λ (y : Setting). h.0 < y.states) (sym s) f.below;
+      made = ((f.made).0, subst (λ (y : Setting). IsMadeOf y h.1.0 (f.made).0) (sym s) (f.made).1);
     },
     h.1.2,
   ),

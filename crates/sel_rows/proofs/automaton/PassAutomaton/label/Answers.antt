@@ -19,9 +19,9 @@ use Rattle.sel_items.specs.Follows.{NodeKey, key_of, Follows}
 use Rattle.sel_law.specs.declared.Setting.{Setting}
 use Rattle.sel_law.specs.Words.{In}
 use Rattle.sel_law.proofs.Packed.{asks_same}
-use Rattle.sel_rows.specs.Held.{held_ask}
+use Rattle.sel_rows.specs.Held.{held_ask, held_content}
 use Rattle.sel_items.specs.Automata.{IsLabelled}
-use Rattle.sel_rows.specs.Meanings.{told_by, Means, IsKnownAs}
+use Rattle.sel_rows.specs.Meanings.{told_by, Means, KnowsKey, IsKnownAs}
 use Rattle.sel_rows.proofs.Keys.{key_facts, some_number, not_numbered}
 use Rattle.sel_rows.proofs.Labelled.{if_ok_of, plain_keeps, plain_labels_one, none_counted, plain_new, keeps, keeps_asked, keeps_known, keeps_held, asks_own, knows_own, holds_own}
 use Rattle.sel_rows.proofs.automaton.PassAutomaton.label.Goals as goal
@@ -32,7 +32,7 @@ published_by : {E : Type 0} (r : Result Label E) (v w : View) (full : Bool) (op 
 published_by (Ok l) v w full op class a b facts tabled = λ k n own e.
     let f = facts k own in
     ⊎_elim
-    (λ (h : HoldsKey w (held_ask v f.0) n). inl (held_ask v f.0, record { known = h.known; some_rows = h.some_rows; packed = f.3 }, f.2))
+    (λ (h : HoldsKey w (held_ask v f.0) n). inl (held_ask v f.0, record { known = h.known; some_rows = h.some_rows; packed = f.3; below = h.below; made = (held_content w n, h.made_of) }, f.2))
     (λ (h : full ≡ true). inr h)
     (tabled f.0 f.1 n e)
 published_by (Err x) v w full op class a b facts tabled = tt
@@ -122,7 +122,7 @@ returns-clause-adds g c =
     }
 
 pub returns-clause-known : goal.returns-clause-known
-returns-clause-known g c k n own known unmarked =
+returns-clause-known g c k n own known =
     let s = c.args.self.now in
     let t = c.answer.new.self in
     let v = s.hand.seat.me.0 in
@@ -136,9 +136,12 @@ returns-clause-known g c k n own known unmarked =
     let kids = own.1 in
     let x = some_number v s.plain.items op class a b kids.0 kids.1 own.0 in
     let f = key_facts s.normal.now v s.plain.items op class x.0 a b kids.0 (omega arith) (omega arith) (omega arith) c.requires.may.over x.1 kids.1 in
-    let same = asks_same known.0 (held_ask v x.0) (known.1).packed f.packed (sym known.2 ∙ (kids.2 ∙ sym f.node)) in
-    let hit = e.hit x.0 x.1 n (subst (λ j. In (j, n) v.known) same (known.1).known) unmarked (known.1).some_rows in
-    (hit.0, hit.1, none_counts s.evaluated t.evaluated c.args.steps.now c.answer.new.steps e.counted hit.1)
+    let same = asks_same known.0 (held_ask v x.0) (known.1).packed f.packed (sym known.2 ∙ (kids.2 ∙ sym f.node)) in (
+      e.known x.0 n x.1 (subst (λ j. KnowsKey v j n) same known.1),
+      λ unmarked.
+          (let hit = e.hit x.0 x.1 n (subst (λ j. In (j, n) v.known) same (known.1).known) unmarked (known.1).some_rows in
+          (hit.0, hit.1, none_counts s.evaluated t.evaluated c.args.steps.now c.answer.new.steps e.counted hit.1)),
+    )
 
 pub returns-clause-published : goal.returns-clause-published
 returns-clause-published g c =

@@ -26,6 +26,13 @@ returns-clause-equal g c = λ _.
     let past = c.loop-index-test.false in
     ((width, λ k lt. i.equal k (omega arith)), from_is w.contents c.args.number 0 items w.setting.width width (λ j lt. ap (held_entry w.contents c.args.number) (omega arith) ∙ i.first j (omega arith)))
 
+pub returns-clause-numbers : goal.returns-clause-numbers
+returns-clause-numbers g c = λ _.
+    let past = c.loop-index-test.false in
+    let long = c.requires.items in
+    let some = c.args.self.now.rows.now.some_width in
+    c.loop-index.invariant.numbers (omega arith)
+
 pub loop-index-init : goal.loop-index-init
 loop-index-init g c = record {
   same = λ _. c.args.self.now.rows;
@@ -34,6 +41,7 @@ loop-index-init g c = record {
   held = c.requires.held.1;
   equal = λ i lt. absurd (omega arith);
   first = λ i lt. absurd (omega arith);
+  numbers = λ h. absurd (omega arith);
 }
 
 pub loop-index-preserved : goal.loop-index-preserved
@@ -58,4 +66,5 @@ loop-index-preserved g c =
       first = λ k lt. dite (ℕ_discrete k at)
           (λ e. ap (held_entry w.contents n) e ∙ (entry_is w n there.1 at found there.0 ∙ (same ∙ ap (slice_index c.args.items.now) (sym e))))
           (λ ne. ap (λ es. held_entry es n k) grown.contents.1 ∙ (entry_front v.contents grown.contents.0 n k (slice_index c.args.items.now k) (i.equal k (omega arith)) ∙ i.first k (omega arith)));
+      numbers = λ _. c.entry-found.ensures.numbers;
     }

@@ -1,7 +1,7 @@
-use Rattle.std.proofs.Common.{[], ◌-◌, ◌≡◌, ℕ, ◌<◌, length}
+use Rattle.std.proofs.Common.{[], ◌-◌, ◌≡◌, ℕ, ◌<◌, ◌≤◌, length}
 use Rattle.std.specs.Prelude.{slice_index}
 use Rattle.sel_law.specs.Words.{In}
-use Rattle.sel_law.specs.Kinds.{HeldNumber}
+use Rattle.sel_law.specs.Kinds.{HeldNumber, OneNumber}
 use Rattle.sel_rows.specs.Grown.{Grown, KeepsOwn}
 use Rattle.sel_rows.specs.Held.{held_entry}
 use Rattle.sel_rows.proofs.hand.Hand.differs.Given as goal
@@ -17,6 +17,7 @@ invariant-loop-index g l = record {
   held : HeldNumber l.self.seat.me.0 l.number;
   equal : (i : ℕ) → i < l.index → In (l.number, i, slice_index l.items i) l.self.seat.me.0.contents;
   first : (i : ℕ) → i < l.index → held_entry l.self.seat.me.0.contents l.number i ≡ slice_index l.items i;
+  numbers : 1 ≤ l.index → OneNumber l.self.seat.me.0;
 }
 
 abbrev pub decreases-loop-index : goal.decreases-loop-index

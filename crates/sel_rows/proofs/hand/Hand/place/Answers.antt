@@ -434,3 +434,17 @@ loop-steps-preserved g c =
       marks = λ f. marks_looked v w asks x a d place found is k.3 u inv.marks f;
       done = λ e. full_looked v w asks x a d place found is m h rs (λ j lt. all j (omega arith));
     }
+
+pub returns-clause-placed : goal.returns-clause-placed
+returns-clause-placed g c =
+    let x = c.args.key in
+    let inv = c.loop-steps.invariant in
+    let v = c.loop-steps.self.seat.me.0 in
+    let m = c.args.self.now.rows.now.rows in
+    let h = c.args.home in
+    let rs : m ≡ v.setting.rows = c.args.self.now.rows.now.rows_is ∙ (sym (ap (λ r. r.now.table.shared.key.rows) inv.same) ∙ sym (ap (λ s. s.rows) c.loop-steps.self.setting)) in
+    let key_is : v.setting ≡ c.args.self.now.rows.now.table.shared.key = c.loop-steps.self.setting ∙ ap (λ r. r.now.table.shared.key) inv.same in
+    let home_is : h ≡ key_home v.setting x = c.requires.home.0 ∙ ap (λ (y : Setting). key_home y x) (sym key_is) in
+    let past = c.loop-steps-test.false in
+    let end = inv.place.2 in
+    (inv.done (omega arith), λ j lt. subst (OtherKey v x) (λ i. walk (rs i) (home_is i) j) (inv.others j (omega arith)))

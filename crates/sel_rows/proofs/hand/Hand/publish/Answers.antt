@@ -1,8 +1,9 @@
-use Rattle.std.proofs.Common.{◌≡◌, ◌≢◌, ℕ, ◌+◌, ◌-◌, ◌≤◌, List, length, sym, ap, ◌∙◌, subst, arith, inl}
+use Rattle.std.proofs.Common.{◌≡◌, ◌≢◌, ℕ, ◌+◌, ◌-◌, ◌≤◌, List, length, sym, ap, ◌∙◌, subst, arith, inl, ⊎_elim}
 use Rattle.sel_law.specs.declared.Setting.{Setting}
 use Rattle.sel_law.specs.declared.View.{View}
 use Rattle.sel_law.specs.Words.{In, intern_at, IsMadeOf}
 use Rattle.sel_law.specs.Kinds.{HeldNumber, WalkedStates}
+use Rattle.sel_law.proofs.Base.{in_front, in_back, in_split}
 use Rattle.sel_rows.proofs.Growth.{grown_then, grown_seen, grown_stood, number_grown, walked_states_grown}
 use Rattle.sel_rows.proofs.Interns.{own_then, own_seen, seen_there}
 use Rattle.sel_rows.proofs.Publishes.{won, lost, stands_whole, step_goes, step_around, step_on}
@@ -57,7 +58,20 @@ stand-found-requires-clause-whole g c =
     let dr : c.draft.new.self.rows.now.states ≡ c.args.self.now.rows.now.states = ap (λ r. r.now.states) c.draft.ensures.same in
     let inside = i.inside in
     let r : c.loop-left.self.rows.now.width ≡ c.args.self.now.rows.now.width = ap (λ r. r.now.width) i.same in
-    (ap length i.draft ∙ (c.requires.items.0 ∙ sym r), subst (λ (d : List ℕ). IsMadeOf c.loop-left.self.rows.now.table.shared.key g.J.Doing.ask d) (sym i.draft) (subst (λ (s : Setting). IsMadeOf s g.J.Doing.ask items) (sym (ap (λ r. r.now.table.shared.key) i.same)) c.requires.asked.1))
+    ap length i.draft ∙ (c.requires.items.0 ∙ sym r)
+
+pub stand-found-requires-clause-asked : goal.stand-found-requires-clause-asked
+stand-found-requires-clause-asked g c =
+    let i = c.loop-left.invariant in
+    let items = c.args.items.now in
+    let k = c.requires.asked in
+    let v = c.loop-left.self.seat.me.0 in
+    let asks = g.J.Doing.asks in (
+      k.0,
+      ⊎_elim (λ (h : In k.0 c.args.self.now.seat.me.0.asked). in_front k.0 v.asked asks (i.grown.asked k.0 h)) (λ (h : In k.0 asks). in_back k.0 v.asked asks h)
+          (in_split k.0 c.args.self.now.seat.me.0.asked asks k.1),
+      subst (λ (d : List ℕ). IsMadeOf c.loop-left.self.rows.now.table.shared.key k.0 d) (sym i.draft) (subst (λ (s : Setting). IsMadeOf s k.0 items) (sym (ap (λ r. r.now.table.shared.key) i.same)) k.2),
+    )
 
 pub returns-then-found-eq0-clause-grown : goal.returns-then-found-eq0-clause-grown
 returns-then-found-eq0-clause-grown g c =

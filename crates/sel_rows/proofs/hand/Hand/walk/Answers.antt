@@ -1,18 +1,20 @@
-use Rattle.std.proofs.Common.{◌≡◌, ℕ, ◌+◌, ◌*◌, true, false, sym, ap, ◌∙◌, subst, arith}
+use Rattle.std.proofs.Common.{◌≡◌, ◌⊎◌, ℕ, ◌+◌, ◌*◌, ◌<◌, ◌≤◌, sym, ap, ◌∙◌, subst, inl, inr, arith}
+use mathlib.Core.Logic.{dite}
+use native.Mathlib.Decide.{ℕ_discrete}
 use Rattle.sel_law.specs.declared.Setting.{Setting}
 use Rattle.sel_law.specs.declared.View.{View}
 use Rattle.sel_law.specs.Words.{IsKey, row_at, walk, key_home}
 use Rattle.sel_law.specs.Kinds.{HeldKey, looked, OtherKey, Learns, Tells, Marks}
 use Rattle.sel_law.proofs.Base.{in_back}
-use Rattle.sel_rows.specs.declared.found.Seen.TheVariants.{Number}
 use Rattle.sel_rows.proofs.Places.{walk_next, walk_around}
 use Rattle.sel_rows.proofs.Growth.{grown_then, grown_looked, key_grown, walked_row_grown}
 use Rattle.sel_rows.proofs.Interns.{number_then}
-use Rattle.sel_rows.proofs.RowWalks.{own_looked, last_looked, found_looked, other_here, others_looked, full_looked, marks_looked, hit_marks, walked_row}
+use Rattle.sel_rows.proofs.RowWalks.{own_looked, last_looked, asked_looked, found_looked, other_here, others_looked, full_looked, marks_looked, hit_marks, walked_row}
 use Rattle.sel_rows.proofs.hand.Hand.walk.Goals as goal
 
-true_false : true ≡ false → ⊥
-true_false e = cc
+asked_of : {n : ℕ} {A : Type 0} → 1 ≤ n → (n ≡ 0) ⊎ A → A
+asked_of h (inl e) = absurd (omega arith)
+asked_of h (inr a) = a
 
 pub look_row_as-found-requires-clause-key : goal.look_row_as-found-requires-clause-key
 look_row_as-found-requires-clause-key g c =
@@ -31,7 +33,10 @@ look_row_as-found-requires-clause-key g c =
     let at_row : place ≡ row_at v.setting c.loop-steps.at = omega arith in
     let key_is : v.setting ≡ c.args.self.now.rows.now.table.shared.key = c.loop-steps.self.setting ∙ ap (λ r. r.now.table.shared.key) inv.same in
     let home_is : h ≡ key_home v.setting x = c.requires.home.0 ∙ ap (λ (y : Setting). key_home y x) (sym key_is) in
-    let walked = walked_row v x m h c.loop-steps.at c.loop-steps.steps rs home_is c.loop-steps-test.true inv.place.0 inv.others in
+    let few = c.requires.rows.1 in
+    let test = c.loop-steps-test.true in
+    let in_row : c.loop-steps.steps < m = omega arith in
+    let walked = walked_row v x m h c.loop-steps.at c.loop-steps.steps rs home_is in_row inv.place.0 inv.others in
     (subst IsKey (sym k.0) k.1, subst (λ y. HeldKey v y a) (sym k.0) inv.held, in_back a v.asked asks k.3, c.loop-steps.self.seated)
 
 pub returns-then-found-eq0-clause-grown : goal.returns-then-found-eq0-clause-grown
@@ -51,7 +56,10 @@ returns-then-found-eq0-clause-grown g c =
     let at_row : place ≡ row_at v.setting c.loop-steps.at = omega arith in
     let key_is : v.setting ≡ c.args.self.now.rows.now.table.shared.key = c.loop-steps.self.setting ∙ ap (λ r. r.now.table.shared.key) inv.same in
     let home_is : h ≡ key_home v.setting x = c.requires.home.0 ∙ ap (λ (y : Setting). key_home y x) (sym key_is) in
-    let walked = walked_row v x m h c.loop-steps.at c.loop-steps.steps rs home_is c.loop-steps-test.true inv.place.0 inv.others in
+    let few = c.requires.rows.1 in
+    let test = c.loop-steps-test.true in
+    let in_row : c.loop-steps.steps < m = omega arith in
+    let walked = walked_row v x m h c.loop-steps.at c.loop-steps.steps rs home_is in_row inv.place.0 inv.others in
     let w = c.look_row_as-found.new.seat.me.0 in
     let found = c.look_row_as-found.result in
     let e = c.look_row_as-found.ensures in
@@ -79,7 +87,10 @@ returns-then-found-eq0-clause-own g c =
     let at_row : place ≡ row_at v.setting c.loop-steps.at = omega arith in
     let key_is : v.setting ≡ c.args.self.now.rows.now.table.shared.key = c.loop-steps.self.setting ∙ ap (λ r. r.now.table.shared.key) inv.same in
     let home_is : h ≡ key_home v.setting x = c.requires.home.0 ∙ ap (λ (y : Setting). key_home y x) (sym key_is) in
-    let walked = walked_row v x m h c.loop-steps.at c.loop-steps.steps rs home_is c.loop-steps-test.true inv.place.0 inv.others in
+    let few = c.requires.rows.1 in
+    let test = c.loop-steps-test.true in
+    let in_row : c.loop-steps.steps < m = omega arith in
+    let walked = walked_row v x m h c.loop-steps.at c.loop-steps.steps rs home_is in_row inv.place.0 inv.others in
     let w = c.look_row_as-found.new.seat.me.0 in
     let found = c.look_row_as-found.result in
     let e = c.look_row_as-found.ensures in
@@ -107,7 +118,10 @@ returns-then-found-eq0-clause-found g c =
     let at_row : place ≡ row_at v.setting c.loop-steps.at = omega arith in
     let key_is : v.setting ≡ c.args.self.now.rows.now.table.shared.key = c.loop-steps.self.setting ∙ ap (λ r. r.now.table.shared.key) inv.same in
     let home_is : h ≡ key_home v.setting x = c.requires.home.0 ∙ ap (λ (y : Setting). key_home y x) (sym key_is) in
-    let walked = walked_row v x m h c.loop-steps.at c.loop-steps.steps rs home_is c.loop-steps-test.true inv.place.0 inv.others in
+    let few = c.requires.rows.1 in
+    let test = c.loop-steps-test.true in
+    let in_row : c.loop-steps.steps < m = omega arith in
+    let walked = walked_row v x m h c.loop-steps.at c.loop-steps.steps rs home_is in_row inv.place.0 inv.others in
     let w = c.look_row_as-found.new.seat.me.0 in
     let found = c.look_row_as-found.result in
     let e = c.look_row_as-found.ensures in
@@ -123,6 +137,7 @@ returns-then-found-eq0-clause-found g c =
       (walked_row_grown asks v w grown x c.loop-steps.at walked).0,
       (let f = inv.grown.steps in let g = ap (λ (y : View). y.steps) is in omega arith),
       last_looked v w asks x a d place found is ∙ ((λ i. (w.steps, at_row i, c.if-found-eq0.true i)) ∙ ap (λ (y : Setting). (w.steps, row_at y c.loop-steps.at, 0)) (sym set_is)),
+      asked_looked v w asks x a d place found is k.3,
     )
 
 pub returns-then-found-eq0-clause-known : goal.returns-then-found-eq0-clause-known
@@ -142,7 +157,10 @@ returns-then-found-eq0-clause-known g c =
     let at_row : place ≡ row_at v.setting c.loop-steps.at = omega arith in
     let key_is : v.setting ≡ c.args.self.now.rows.now.table.shared.key = c.loop-steps.self.setting ∙ ap (λ r. r.now.table.shared.key) inv.same in
     let home_is : h ≡ key_home v.setting x = c.requires.home.0 ∙ ap (λ (y : Setting). key_home y x) (sym key_is) in
-    let walked = walked_row v x m h c.loop-steps.at c.loop-steps.steps rs home_is c.loop-steps-test.true inv.place.0 inv.others in
+    let few = c.requires.rows.1 in
+    let test = c.loop-steps-test.true in
+    let in_row : c.loop-steps.steps < m = omega arith in
+    let walked = walked_row v x m h c.loop-steps.at c.loop-steps.steps rs home_is in_row inv.place.0 inv.others in
     let w = c.look_row_as-found.new.seat.me.0 in
     let found = c.look_row_as-found.result in
     let e = c.look_row_as-found.ensures in
@@ -151,7 +169,7 @@ returns-then-found-eq0-clause-known g c =
     let grown = grown_looked asks v w x a d place found k.3 is in
     let learns : Learns v x a d found = subst (λ y. Learns v y a d found) k.0 e.1.2 in
     let tells : Tells v x a place found = subst (λ y. Tells v y a place found) k.0 e.3 in
-    λ n kn rf. absurd ((tells n c.loop-steps.at (inv.grown.known (a, n) kn) at_row walked).0 c.if-found-eq0.true)
+    λ n kn. (tells n c.loop-steps.at (inv.grown.known (a, n) kn) at_row walked).0 c.if-found-eq0.true
 
 pub returns-then-found-eq0-clause-full : goal.returns-then-found-eq0-clause-full
 returns-then-found-eq0-clause-full g c =
@@ -170,7 +188,10 @@ returns-then-found-eq0-clause-full g c =
     let at_row : place ≡ row_at v.setting c.loop-steps.at = omega arith in
     let key_is : v.setting ≡ c.args.self.now.rows.now.table.shared.key = c.loop-steps.self.setting ∙ ap (λ r. r.now.table.shared.key) inv.same in
     let home_is : h ≡ key_home v.setting x = c.requires.home.0 ∙ ap (λ (y : Setting). key_home y x) (sym key_is) in
-    let walked = walked_row v x m h c.loop-steps.at c.loop-steps.steps rs home_is c.loop-steps-test.true inv.place.0 inv.others in
+    let few = c.requires.rows.1 in
+    let test = c.loop-steps-test.true in
+    let in_row : c.loop-steps.steps < m = omega arith in
+    let walked = walked_row v x m h c.loop-steps.at c.loop-steps.steps rs home_is in_row inv.place.0 inv.others in
     let w = c.look_row_as-found.new.seat.me.0 in
     let found = c.look_row_as-found.result in
     let e = c.look_row_as-found.ensures in
@@ -198,7 +219,10 @@ returns-then-found-key-clause-grown g c =
     let at_row : place ≡ row_at v.setting c.loop-steps.at = omega arith in
     let key_is : v.setting ≡ c.args.self.now.rows.now.table.shared.key = c.loop-steps.self.setting ∙ ap (λ r. r.now.table.shared.key) inv.same in
     let home_is : h ≡ key_home v.setting x = c.requires.home.0 ∙ ap (λ (y : Setting). key_home y x) (sym key_is) in
-    let walked = walked_row v x m h c.loop-steps.at c.loop-steps.steps rs home_is c.loop-steps-test.true inv.place.0 inv.others in
+    let few = c.requires.rows.1 in
+    let test = c.loop-steps-test.true in
+    let in_row : c.loop-steps.steps < m = omega arith in
+    let walked = walked_row v x m h c.loop-steps.at c.loop-steps.steps rs home_is in_row inv.place.0 inv.others in
     let w = c.look_row_as-found.new.seat.me.0 in
     let found = c.look_row_as-found.result in
     let e = c.look_row_as-found.ensures in
@@ -226,7 +250,10 @@ returns-then-found-key-clause-own g c =
     let at_row : place ≡ row_at v.setting c.loop-steps.at = omega arith in
     let key_is : v.setting ≡ c.args.self.now.rows.now.table.shared.key = c.loop-steps.self.setting ∙ ap (λ r. r.now.table.shared.key) inv.same in
     let home_is : h ≡ key_home v.setting x = c.requires.home.0 ∙ ap (λ (y : Setting). key_home y x) (sym key_is) in
-    let walked = walked_row v x m h c.loop-steps.at c.loop-steps.steps rs home_is c.loop-steps-test.true inv.place.0 inv.others in
+    let few = c.requires.rows.1 in
+    let test = c.loop-steps-test.true in
+    let in_row : c.loop-steps.steps < m = omega arith in
+    let walked = walked_row v x m h c.loop-steps.at c.loop-steps.steps rs home_is in_row inv.place.0 inv.others in
     let w = c.look_row_as-found.new.seat.me.0 in
     let found = c.look_row_as-found.result in
     let e = c.look_row_as-found.ensures in
@@ -254,7 +281,10 @@ returns-then-found-key-clause-found g c =
     let at_row : place ≡ row_at v.setting c.loop-steps.at = omega arith in
     let key_is : v.setting ≡ c.args.self.now.rows.now.table.shared.key = c.loop-steps.self.setting ∙ ap (λ r. r.now.table.shared.key) inv.same in
     let home_is : h ≡ key_home v.setting x = c.requires.home.0 ∙ ap (λ (y : Setting). key_home y x) (sym key_is) in
-    let walked = walked_row v x m h c.loop-steps.at c.loop-steps.steps rs home_is c.loop-steps-test.true inv.place.0 inv.others in
+    let few = c.requires.rows.1 in
+    let test = c.loop-steps-test.true in
+    let in_row : c.loop-steps.steps < m = omega arith in
+    let walked = walked_row v x m h c.loop-steps.at c.loop-steps.steps rs home_is in_row inv.place.0 inv.others in
     let w = c.look_row_as-found.new.seat.me.0 in
     let found = c.look_row_as-found.result in
     let e = c.look_row_as-found.ensures in
@@ -263,7 +293,7 @@ returns-then-found-key-clause-found g c =
     let grown = grown_looked asks v w x a d place found k.3 is in
     let learns : Learns v x a d found = subst (λ y. Learns v y a d found) k.0 e.1.2 in
     let tells : Tells v x a place found = subst (λ y. Tells v y a place found) k.0 e.3 in
-    found_looked v w asks x a d place found is k.3 (let some = c.requires.rows in omega arith) (λ z. c.if-found-eq0.false z) c.if-found-key.true learns e.2
+    found_looked v w asks x a d place found is k.3 (let some = c.requires.rows.0 in omega arith) (λ z. c.if-found-eq0.false z) c.if-found-key.true learns e.2
 
 pub returns-then-found-key-clause-known : goal.returns-then-found-key-clause-known
 returns-then-found-key-clause-known g c =
@@ -282,7 +312,10 @@ returns-then-found-key-clause-known g c =
     let at_row : place ≡ row_at v.setting c.loop-steps.at = omega arith in
     let key_is : v.setting ≡ c.args.self.now.rows.now.table.shared.key = c.loop-steps.self.setting ∙ ap (λ r. r.now.table.shared.key) inv.same in
     let home_is : h ≡ key_home v.setting x = c.requires.home.0 ∙ ap (λ (y : Setting). key_home y x) (sym key_is) in
-    let walked = walked_row v x m h c.loop-steps.at c.loop-steps.steps rs home_is c.loop-steps-test.true inv.place.0 inv.others in
+    let few = c.requires.rows.1 in
+    let test = c.loop-steps-test.true in
+    let in_row : c.loop-steps.steps < m = omega arith in
+    let walked = walked_row v x m h c.loop-steps.at c.loop-steps.steps rs home_is in_row inv.place.0 inv.others in
     let w = c.look_row_as-found.new.seat.me.0 in
     let found = c.look_row_as-found.result in
     let e = c.look_row_as-found.ensures in
@@ -291,7 +324,7 @@ returns-then-found-key-clause-known g c =
     let grown = grown_looked asks v w x a d place found k.3 is in
     let learns : Learns v x a d found = subst (λ y. Learns v y a d found) k.0 e.1.2 in
     let tells : Tells v x a place found = subst (λ y. Tells v y a place found) k.0 e.3 in
-    λ n kn rf. ap Number ((tells n c.loop-steps.at (inv.grown.known (a, n) kn) at_row walked).1 c.if-found-key.true)
+    λ n kn. (tells n c.loop-steps.at (inv.grown.known (a, n) kn) at_row walked).1 c.if-found-key.true
 
 pub returns-then-found-key-clause-full : goal.returns-then-found-key-clause-full
 returns-then-found-key-clause-full g c =
@@ -310,7 +343,10 @@ returns-then-found-key-clause-full g c =
     let at_row : place ≡ row_at v.setting c.loop-steps.at = omega arith in
     let key_is : v.setting ≡ c.args.self.now.rows.now.table.shared.key = c.loop-steps.self.setting ∙ ap (λ r. r.now.table.shared.key) inv.same in
     let home_is : h ≡ key_home v.setting x = c.requires.home.0 ∙ ap (λ (y : Setting). key_home y x) (sym key_is) in
-    let walked = walked_row v x m h c.loop-steps.at c.loop-steps.steps rs home_is c.loop-steps-test.true inv.place.0 inv.others in
+    let few = c.requires.rows.1 in
+    let test = c.loop-steps-test.true in
+    let in_row : c.loop-steps.steps < m = omega arith in
+    let walked = walked_row v x m h c.loop-steps.at c.loop-steps.steps rs home_is in_row inv.place.0 inv.others in
     let w = c.look_row_as-found.new.seat.me.0 in
     let found = c.look_row_as-found.result in
     let e = c.look_row_as-found.ensures in
@@ -338,7 +374,10 @@ loop-steps-preserved-then-at-rows g c =
     let at_row : place ≡ row_at v.setting c.loop-steps.at = omega arith in
     let key_is : v.setting ≡ c.args.self.now.rows.now.table.shared.key = c.loop-steps.self.setting ∙ ap (λ r. r.now.table.shared.key) inv.same in
     let home_is : h ≡ key_home v.setting x = c.requires.home.0 ∙ ap (λ (y : Setting). key_home y x) (sym key_is) in
-    let walked = walked_row v x m h c.loop-steps.at c.loop-steps.steps rs home_is c.loop-steps-test.true inv.place.0 inv.others in
+    let few = c.requires.rows.1 in
+    let test = c.loop-steps-test.true in
+    let in_row : c.loop-steps.steps < m = omega arith in
+    let walked = walked_row v x m h c.loop-steps.at c.loop-steps.steps rs home_is in_row inv.place.0 inv.others in
     let w = c.look_row_as-found.new.seat.me.0 in
     let found = c.look_row_as-found.result in
     let e = c.look_row_as-found.ensures in
@@ -349,7 +388,6 @@ loop-steps-preserved-then-at-rows g c =
     let tells : Tells v x a place found = subst (λ y. Tells v y a place found) k.0 e.3 in
     let here = other_here v w asks x a d place found is c.loop-steps.at at_row (λ z. c.if-found-eq0.false z) (λ z. c.if-found-key.false z) in
     let all = others_looked v w asks x a d place found is k.3 m h c.loop-steps.steps inv.others (subst (OtherKey w x) inv.place.0 here) in
-    let lt = c.loop-steps-test.true in
     record {
       same = inv.same;
       place = (sym (walk_around m h c.loop-steps.steps (let p = inv.place.0 in let t = c.if-at-rows.true in omega arith)), omega arith, omega arith);
@@ -360,6 +398,7 @@ loop-steps-preserved-then-at-rows g c =
       marks = λ f. marks_looked v w asks x a d place found is k.3 u inv.marks f;
       done = λ e. full_looked v w asks x a d place found is m h rs (λ j lt. all j (omega arith));
       stays = λ n kn f. inv.stays n kn (e.4 n (inv.grown.known (a, n) kn) f);
+      asked = inr (asked_looked v w asks x a d place found is k.3);
     }
 
 pub loop-steps-preserved : goal.loop-steps-preserved
@@ -379,7 +418,10 @@ loop-steps-preserved g c =
     let at_row : place ≡ row_at v.setting c.loop-steps.at = omega arith in
     let key_is : v.setting ≡ c.args.self.now.rows.now.table.shared.key = c.loop-steps.self.setting ∙ ap (λ r. r.now.table.shared.key) inv.same in
     let home_is : h ≡ key_home v.setting x = c.requires.home.0 ∙ ap (λ (y : Setting). key_home y x) (sym key_is) in
-    let walked = walked_row v x m h c.loop-steps.at c.loop-steps.steps rs home_is c.loop-steps-test.true inv.place.0 inv.others in
+    let few = c.requires.rows.1 in
+    let test = c.loop-steps-test.true in
+    let in_row : c.loop-steps.steps < m = omega arith in
+    let walked = walked_row v x m h c.loop-steps.at c.loop-steps.steps rs home_is in_row inv.place.0 inv.others in
     let w = c.look_row_as-found.new.seat.me.0 in
     let found = c.look_row_as-found.result in
     let e = c.look_row_as-found.ensures in
@@ -390,7 +432,6 @@ loop-steps-preserved g c =
     let tells : Tells v x a place found = subst (λ y. Tells v y a place found) k.0 e.3 in
     let here = other_here v w asks x a d place found is c.loop-steps.at at_row (λ z. c.if-found-eq0.false z) (λ z. c.if-found-key.false z) in
     let all = others_looked v w asks x a d place found is k.3 m h c.loop-steps.steps inv.others (subst (OtherKey w x) inv.place.0 here) in
-    let lt = c.loop-steps-test.true in
     record {
       same = inv.same;
       place = (ap (λ q. q + 1) inv.place.0 ∙ sym (walk_next m h c.loop-steps.steps (let p = inv.place.0 in let t = c.if-at-rows.false in omega arith)), omega arith, omega arith);
@@ -401,6 +442,7 @@ loop-steps-preserved g c =
       marks = λ f. marks_looked v w asks x a d place found is k.3 u inv.marks f;
       done = λ e. full_looked v w asks x a d place found is m h rs (λ j lt. all j (omega arith));
       stays = λ n kn f. inv.stays n kn (e.4 n (inv.grown.known (a, n) kn) f);
+      asked = inr (asked_looked v w asks x a d place found is k.3);
     }
 
 pub returns-clause-found : goal.returns-clause-found
@@ -420,9 +462,13 @@ returns-clause-found g c =
     let at_row : place ≡ row_at v.setting c.loop-steps.at = omega arith in
     let key_is : v.setting ≡ c.args.self.now.rows.now.table.shared.key = c.loop-steps.self.setting ∙ ap (λ r. r.now.table.shared.key) inv.same in
     let home_is : h ≡ key_home v.setting x = c.requires.home.0 ∙ ap (λ (y : Setting). key_home y x) (sym key_is) in
+    let few = c.requires.rows.1 in
     let past = c.loop-steps-test.false in
-    let end = inv.place.2 in
-    (inv.done (omega arith), λ j lt. subst (OtherKey v x) (λ i. walk (rs i) (home_is i) j) (inv.others j (omega arith)))
+    let end = inv.place.2 in (
+      (λ e. inv.done (omega arith)),
+      (λ j lt. subst (OtherKey v x) (λ i. walk (rs i) (home_is i) j) (inv.others j (omega arith))),
+      asked_of (let some = c.requires.rows.0 in let goal : 1 ≤ c.loop-steps.steps = omega arith in goal) inv.asked,
+    )
 
 pub returns-clause-known : goal.returns-clause-known
 returns-clause-known g c =
@@ -441,6 +487,9 @@ returns-clause-known g c =
     let at_row : place ≡ row_at v.setting c.loop-steps.at = omega arith in
     let key_is : v.setting ≡ c.args.self.now.rows.now.table.shared.key = c.loop-steps.self.setting ∙ ap (λ r. r.now.table.shared.key) inv.same in
     let home_is : h ≡ key_home v.setting x = c.requires.home.0 ∙ ap (λ (y : Setting). key_home y x) (sym key_is) in
+    let few = c.requires.rows.1 in
     let past = c.loop-steps-test.false in
     let end = inv.place.2 in
-    λ n kn rf. absurd (true_false (sym (inv.stays n kn (inv.done (omega arith))) ∙ rf))
+    λ n kn. dite (ℕ_discrete c.args.most m)
+    (λ e. inr (inv.stays n kn (inv.done (omega arith))))
+    (λ ne. inl (let r : u.setting.rows ≡ m = ap (λ (y : Setting). y.rows) c.args.self.now.setting ∙ sym c.args.self.now.rows.now.rows_is in omega arith))

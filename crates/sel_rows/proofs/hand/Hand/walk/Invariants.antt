@@ -7,7 +7,7 @@ use Rattle.sel_rows.proofs.hand.Hand.walk.Given as goal
 abbrev pub invariant-loop-steps : goal.invariant-loop-steps
 invariant-loop-steps g l = record {
   same : l.self.rows ≡ l.fn.self.rows;
-  place : (l.at ≡ walk l.rows l.home l.steps) × (l.at < l.rows) × (l.steps ≤ l.rows);
+  place : (l.at ≡ walk l.rows l.home l.steps) × (l.at < l.rows) × (l.steps ≤ l.most);
   held : HeldKey l.self.seat.me.0 l.key g.J.Doing.ask;
   grown : Grown g.J.Doing.asks l.fn.self.seat.me.0 l.self.seat.me.0;
   own : KeepsNumber l.fn.self.seat.me.0 l.self.seat.me.0;
@@ -15,7 +15,8 @@ invariant-loop-steps g l = record {
   marks : l.self.seat.me.0.row_full ≡ true → (l.fn.self.seat.me.0.row_full ≡ true) ⊎ AllOther l.self.seat.me.0 l.key;
   done : l.steps ≡ l.rows → l.self.seat.me.0.row_full ≡ true;
   stays : (n : ℕ) → In (g.J.Doing.ask, n) l.fn.self.seat.me.0.known → l.self.seat.me.0.row_full ≡ true → l.fn.self.seat.me.0.row_full ≡ true;
+  asked : (l.steps ≡ 0) ⊎ In g.J.Doing.ask l.self.seat.me.0.asked;
 }
 
 abbrev pub decreases-loop-steps : goal.decreases-loop-steps
-decreases-loop-steps g l = l.rows - l.steps
+decreases-loop-steps g l = l.most - l.steps

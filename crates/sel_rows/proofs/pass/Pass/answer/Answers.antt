@@ -1,7 +1,8 @@
 use Rattle.std.proofs.Common.{◌≡◌, ℕ, List, [], ◌∷◌, Some, None, sym, ap, ◌∙◌, subst, arith, refl}
 use Rattle.sel_items.specs.declared.items.Items.{Items}
 use Rattle.sel_items.specs.Labels.{KidsAre}
-use Rattle.sel_rows.specs.Meanings.{Means}
+use Rattle.sel_rows.specs.Meanings.{Means, KnowsKey}
+use Rattle.sel_rows.specs.SeenKey.{LooksMarked}
 use Rattle.sel_law.specs.declared.Setting.{Setting}
 use Rattle.sel_law.specs.Words.{node_key}
 use Rattle.sel_law.proofs.Base.{in_here, in_one, in_nil}
@@ -85,3 +86,22 @@ returns-in-Some-clause-published g c = λ x e.
     let u = s.hand.seat.me.0 in
     let same : c.in-Some.key ≡ x = some_is c.in-Some.key x (sym (sym c.key_number.ensures ∙ c.in-Some.is) ∙ e) in
     subst (λ y. IsTabledAs t.hand.seat.me.0 (held_ask u y) t.row_full c.answer_over_numbers.result) same c.answer_over_numbers.ensures.published
+
+pub returns-in-None-clause-known : goal.returns-in-None-clause-known
+returns-in-None-clause-known g c = λ x n e. absurd (none_some x (sym (sym c.key_number.ensures ∙ c.in-None.is) ∙ e))
+
+pub returns-in-Some-clause-known : goal.returns-in-Some-clause-known
+returns-in-Some-clause-known g c = λ x n e known.
+    let u = c.args.self.now.hand.seat.me.0 in
+    let same : x ≡ c.in-Some.key = some_is x c.in-Some.key (sym e ∙ (sym c.key_number.ensures ∙ c.in-Some.is)) in
+    c.answer_over_numbers.ensures.known n (subst (λ y. KnowsKey u (held_ask u y) n) same known)
+
+pub returns-in-None-clause-looked : goal.returns-in-None-clause-looked
+returns-in-None-clause-looked g c = λ x e. absurd (none_some x (sym (sym c.key_number.ensures ∙ c.in-None.is) ∙ e))
+
+pub returns-in-Some-clause-looked : goal.returns-in-Some-clause-looked
+returns-in-Some-clause-looked g c = λ x e.
+    let s = c.args.self.now in
+    let u = s.hand.seat.me.0 in
+    let same : c.in-Some.key ≡ x = some_is c.in-Some.key x (sym (sym c.key_number.ensures ∙ c.in-Some.is) ∙ e) in
+    subst (λ y. LooksMarked u c.answer_over_numbers.new.self.hand.seat.me.0 y (held_ask u y) s.row_full) same c.answer_over_numbers.ensures.looked

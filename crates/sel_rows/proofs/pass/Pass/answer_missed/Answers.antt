@@ -1,11 +1,13 @@
-use Rattle.std.proofs.Common.{◌≡◌, ◌⊎◌, ℕ, true, false, sym, ap, ◌∙◌, subst, inl, inr, ⊎_elim, arith}
+use Rattle.std.proofs.Common.{◌≡◌, ◌⊎◌, ℕ, true, false, Some, None, sym, ap, ◌∙◌, subst, inl, inr, ⊎_elim, arith}
 use Rattle.sel_normal.specs.NormalForms.{NormalForm}
 use Rattle.sel_normal.specs.Standing.{IsStanding}
 use Rattle.sel_items.specs.declared.label.Label.TheVariants.{Numbered}
 use Rattle.sel_items.specs.Follows.{NodeKey, key_of, Follows}
 use Rattle.sel_items.specs.Automata.{IsLabelled}
 use Rattle.sel_law.specs.declared.Setting.{Setting}
-use Rattle.sel_law.specs.Words.{In, IsMadeOf, node_key}
+use Rattle.sel_law.specs.Words.{In, IsMadeOf, ArePacked, items_of, node_key}
+use Rattle.sel_law.specs.Kinds.{HasContent}
+use Rattle.sel_rows.proofs.KnownKeys.{made_fits, only_made, has_grown}
 use Rattle.sel_rows.specs.Grown.{Grown}
 use Rattle.sel_rows.specs.FoundRow.{HoldsKey}
 use Rattle.sel_rows.specs.Meanings.{told_by}
@@ -393,3 +395,76 @@ returns-in-Some-clause-published g c = λ n e.
     let w = c.publish_key-known.new.self in
     subst (λ m. HoldsKey w.hand.seat.me.0 g.J.Doing.ask m ⊎ (w.row_full ≡ true)) (label_is c.publish_key-known.result n e)
     (⊎_elim (λ (h : HoldsKey w.hand.seat.me.0 g.J.Doing.ask c.publish_key-known.result). inl h) (λ (h : (c.publish_key-known.result ≡ c.in-Some.number) × (w.row_full ≡ true)). inr h.1) c.publish_key-known.ensures.number)
+
+pub returns-then-not-fits-clause-known : goal.returns-then-not-fits-clause-known
+returns-then-not-fits-clause-known g c = λ n known full.
+    let s = c.args.self.now in
+    let s1 = c.evaluate_kids.new.self in
+    let asks = g.J.Doing.asks in
+    let ask = g.J.Doing.ask in
+    let u = s.hand.seat.me.0 in
+    let v1 = s1.hand.seat.me.0 in
+    let op = c.args.operator in
+    let class = c.args.class in
+    let items = c.in_ok-items.items in
+    let ks = c.requires.kids in
+    let normal = s.normal.now in
+    let follows = c.in_ok-items.ensures.follows ks.0 ks.1 in
+    let node = c.requires.node.2 ks.0 ks.1 in
+    let form : u.setting.normal.value ≡ normal = ap (λ (y : Setting). y.normal.value) s.hand.setting ∙ s.normal_is in
+    absurd (true_false (sym (c.fits.ensures.1 (made_fits c.follows_is_one.ensures normal u.setting form ask (key_of op class ks.0) node items follows (known.made).0 (known.made).1)) ∙ c.if-not-fits.true))
+
+none_some : (n : ℕ) → None ≡ Some n → ⊥
+none_some n e = cc
+
+some_is : (m n : ℕ) → Some m ≡ Some n → m ≡ n
+some_is m n e = cc
+
+pub returns-in-None-clause-known : goal.returns-in-None-clause-known
+returns-in-None-clause-known g c = λ n known full.
+    let s = c.args.self.now in
+    let s1 = c.evaluate_kids.new.self in
+    let asks = g.J.Doing.asks in
+    let ask = g.J.Doing.ask in
+    let u = s.hand.seat.me.0 in
+    let v1 = s1.hand.seat.me.0 in
+    let op = c.args.operator in
+    let class = c.args.class in
+    let items = c.in_ok-items.items in
+    let ks = c.requires.kids in
+    let normal = s.normal.now in
+    let follows = c.in_ok-items.ensures.follows ks.0 ks.1 in
+    let node = c.requires.node.2 ks.0 ks.1 in
+    let form : u.setting.normal.value ≡ normal = ap (λ (y : Setting). y.normal.value) s.hand.setting ∙ s.normal_is in
+    let again = ap (λ ws. items_of ws) c.as_slice.ensures.value ∙ c.in_ok-words.ensures.again in
+    let packed : ArePacked c.as_slice.result.now = subst ArePacked (sym c.as_slice.ensures.value) c.in_ok-words.ensures.words in
+    let only = only_made c.follows_is_one.ensures normal u.setting form ask (key_of op class ks.0) node items follows c.as_slice.result.now packed again in
+    let has : HasContent v1 n c.as_slice.result.now = has_grown asks u v1 c.evaluate_kids.ensures.grown n c.as_slice.result.now (inr (ask, known.known, only)) in
+    let below = known.below in
+    let states : s1.hand.rows.now.states ≡ u.setting.states = s1.hand.rows.now.states_is ∙ (ap (λ r. r.now.table.shared.key.states) c.evaluate_kids.ensures.kept.0 ∙ ap (λ (y : Setting). y.states) (sym s.hand.setting)) in
+    absurd (none_some n (sym c.in-None.is ∙ c.intern.ensures.only n (omega arith) has))
+
+pub returns-in-Some-clause-known : goal.returns-in-Some-clause-known
+returns-in-Some-clause-known g c = λ n known full.
+    let s = c.args.self.now in
+    let s1 = c.evaluate_kids.new.self in
+    let asks = g.J.Doing.asks in
+    let ask = g.J.Doing.ask in
+    let u = s.hand.seat.me.0 in
+    let v1 = s1.hand.seat.me.0 in
+    let op = c.args.operator in
+    let class = c.args.class in
+    let items = c.in_ok-items.items in
+    let ks = c.requires.kids in
+    let normal = s.normal.now in
+    let follows = c.in_ok-items.ensures.follows ks.0 ks.1 in
+    let node = c.requires.node.2 ks.0 ks.1 in
+    let form : u.setting.normal.value ≡ normal = ap (λ (y : Setting). y.normal.value) s.hand.setting ∙ s.normal_is in
+    let again = ap (λ ws. items_of ws) c.as_slice.ensures.value ∙ c.in_ok-words.ensures.again in
+    let packed : ArePacked c.as_slice.result.now = subst ArePacked (sym c.as_slice.ensures.value) c.in_ok-words.ensures.words in
+    let only = only_made c.follows_is_one.ensures normal u.setting form ask (key_of op class ks.0) node items follows c.as_slice.result.now packed again in
+    let has : HasContent v1 n c.as_slice.result.now = has_grown asks u v1 c.evaluate_kids.ensures.grown n c.as_slice.result.now (inr (ask, known.known, only)) in
+    let below = known.below in
+    let states : s1.hand.rows.now.states ≡ u.setting.states = s1.hand.rows.now.states_is ∙ (ap (λ r. r.now.table.shared.key.states) c.evaluate_kids.ensures.kept.0 ∙ ap (λ (y : Setting). y.states) (sym s.hand.setting)) in
+    let found : c.in-Some.number ≡ n = some_is c.in-Some.number n (sym c.in-Some.is ∙ c.intern.ensures.only n (omega arith) has) in
+    ap Numbered (c.publish_key-known.ensures.unplaced full ∙ found)

@@ -1,4 +1,4 @@
-use Rattle.std.proofs.Common.{◌≡◌, ◌⊎◌, true, ℕ, ◌<◌, List, length, sym, ap, ◌∙◌, subst, refl, Ok, inl}
+use Rattle.std.proofs.Common.{◌≡◌, ◌⊎◌, true, ℕ, ◌<◌, min, arith, inr, List, length, sym, ap, ◌∙◌, subst, refl, Ok, inl}
 use Rattle.sel_normal.specs.NormalForms.{NormalForm}
 use Rattle.sel_items.specs.declared.items.Items.{Items}
 use Rattle.sel_items.specs.declared.label.Label.TheVariants.{Numbered}
@@ -9,7 +9,8 @@ use Rattle.sel_law.specs.declared.Setting.{Setting}
 use Rattle.sel_rows.specs.declared.found.Seen.TheVariants.{Number}
 use Rattle.sel_rows.specs.Meanings.{told_by, Means}
 use Rattle.sel_rows.specs.Answers.{IsPlainAfter}
-use Rattle.sel_rows.specs.FoundRow.{HoldsKey}
+use Rattle.sel_rows.specs.FoundRow.{HoldsKey, HoldsOthers}
+use Rattle.sel_rows.proofs.KnownKeys.{knows_grown, is_full, looked_others, others_grown}
 use Rattle.sel_rows.proofs.Growth.{grown_then, key_grown}
 use Rattle.sel_rows.proofs.Labelled.{if_ok_of, labelled_key}
 use Rattle.sel_rows.proofs.Steps.{kids_keep, kids_one, means_keep, left_before}
@@ -87,7 +88,7 @@ returns-in-Number-clause-hit g c =
     let same_normal : s1.normal.now ≡ s.normal.now = ap (λ r. r.now) e.kept.1 in
     let moved : (is : List Items) → KidsAre (Means u s.plain.items) a b is → KidsAre (Means v1 s1.plain.items) a b is =
     λ is h. kids_keep (Means u s.plain.items) (Means v1 s1.plain.items) (means_keep asks u v1 e.grown s.plain.items s1.plain.items e.plain) a b is h in
-    λ n kn rf some. (ap (λ m. Ok (Numbered m)) (number_is c.in-Number.number n (c.in-Number.ensures.known n kn rf some)), refl, c.in-Number.ensures.unmarked c.in-Number.number refl ∙ rf)
+    λ n kn rf some. (ap (λ m. Ok (Numbered m)) (number_is c.in-Number.number n (c.in-Number.ensures.known n kn rf some)), refl, c.in-Number.ensures.marks ∙ rf)
 
 pub returns-in_default-clause-grown : goal.returns-in_default-clause-grown
 returns-in_default-clause-grown g c =
@@ -207,3 +208,27 @@ label_is m n e = cc
 pub returns-in-Number-clause-published : goal.returns-in-Number-clause-published
 returns-in-Number-clause-published g c = λ n e.
     subst (λ m. HoldsKey c.find_key-seen.new.self.hand.seat.me.0 g.J.Doing.ask m ⊎ (c.find_key-seen.new.self.row_full ≡ true)) (label_is c.in-Number.number n e) (inl c.in-Number.ensures.seen)
+
+pub returns-in-Number-clause-known : goal.returns-in-Number-clause-known
+returns-in-Number-clause-known g c = λ n known. ap Numbered (c.in-Number.ensures.no_other n known.known known.some_rows)
+
+pub returns-in_default-clause-known : goal.returns-in_default-clause-known
+returns-in_default-clause-known g c = λ n known.
+    let e = c.find_key-seen.ensures in
+    c.answer_missed.ensures.known n
+    (knows_grown g.J.Doing.asks c.args.self.now.hand.seat.me.0 c.find_key-seen.new.self.hand.seat.me.0 e.grown g.J.Doing.ask n known)
+    (is_full c.find_key-seen.result n (λ m q. c.in_default.not-Number m q) (e.no_other n known.known known.some_rows))
+
+pub returns-in-Number-clause-looked : goal.returns-in-Number-clause-looked
+returns-in-Number-clause-looked g c = λ b some. inl (c.in-Number.number, c.in-Number.ensures.seen)
+
+pub returns-in_default-clause-looked : goal.returns-in_default-clause-looked
+returns-in_default-clause-looked g c = λ b some.
+    let u = c.args.self.now.hand.seat.me.0 in
+    let s1 = c.find_key-seen.new.self in
+    let v = s1.hand.seat.me.0 in
+    let w = c.answer_missed.new.self.hand.seat.me.0 in
+    let e = c.find_key-seen.ensures in
+    let rows : v.setting.rows ≡ u.setting.rows = ap (λ (y : Setting). y.rows) e.grown.setting in
+    let there = looked_others u v c.args.key g.J.Doing.ask c.find_key-seen.result c.args.self.now.row_full s1.row_full b (omega arith) (λ m q. c.in_default.not-Number m q) e.walked e.marks in
+    inr (subst (λ r. HoldsOthers w c.args.key (min r 64)) rows (others_grown g.J.Doing.asks v w c.answer_missed.ensures.grown c.args.key (min v.setting.rows 64) there))

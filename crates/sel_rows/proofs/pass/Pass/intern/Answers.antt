@@ -2,11 +2,13 @@ use Rattle.std.proofs.Common.{◌≡◌, ℕ, ◌+◌, ◌*◌, ◌<◌, List, s
 use Rattle.std.specs.Prelude.{slice_index}
 use Rattle.sel_law.specs.declared.Setting.{Setting}
 use Rattle.sel_law.specs.declared.View.{View}
-use Rattle.sel_law.specs.Words.{In, intern_at, content_home}
+use Rattle.sel_law.specs.Words.{In, intern_at, content_home, IsMadeOf}
 use Rattle.sel_law.specs.Kinds.{HeldNumber}
+use Rattle.sel_law.proofs.Base.{in_back}
 use Rattle.sel_rows.specs.FoundState.{NoneHolds}
 use Rattle.sel_rows.specs.Grown.{KeepsHeld}
 use Rattle.sel_rows.proofs.Growth.{grown_then, walked_states_grown}
+use Rattle.sel_rows.proofs.KnownKeys.{has_grown}
 use Rattle.sel_rows.proofs.pass.Pass.intern.Goals as goal
 
 pub find_state-requires-clause-home : goal.find_state-requires-clause-home
@@ -69,3 +71,29 @@ returns-in_err-number-in-Absent-clause-number g c =
       ),
       e.2,
     )
+
+pub publish-requires-clause-asked : goal.publish-requires-clause-asked
+publish-requires-clause-asked g c =
+    let a = g.J.Doing.ask in
+    let w = c.take_number.new.self.hand.seat.me.0 in
+    let same = ap (λ r. r.now.table.shared.key) (c.take_number.ensures.kept.0 ∙ c.find_state.ensures.same) in
+    (a, in_back a w.asked g.J.Doing.asks c.requires.asked.0, subst (λ (s : Setting). IsMadeOf s a c.args.words.now) (sym same) c.requires.asked.1)
+
+pub returns-then-self-eq0-clause-only : goal.returns-then-self-eq0-clause-only
+returns-then-self-eq0-clause-only g c = λ n some has. absurd (let none = c.if-self-eq0.true in omega arith)
+
+pub returns-in-Number-clause-only : goal.returns-in-Number-clause-only
+returns-in-Number-clause-only g c = λ n some has.
+    ap Some (sym (c.in-Number.ensures.only n (has_grown g.J.Doing.asks c.args.self.now.hand.seat.me.0 c.find_state.new.self.seat.me.0 c.find_state.ensures.grown n c.args.words.now has)))
+
+pub returns-in_err-number-in-Absent-clause-only : goal.returns-in_err-number-in-Absent-clause-only
+returns-in_err-number-in-Absent-clause-only g c = λ n some has.
+    absurd (c.in-Absent.ensures.only n (has_grown g.J.Doing.asks c.args.self.now.hand.seat.me.0 c.find_state.new.self.seat.me.0 c.find_state.ensures.grown n c.args.words.now has))
+
+pub returns-in-Own-clause-only : goal.returns-in-Own-clause-only
+returns-in-Own-clause-only g c = λ n some has.
+    absurd (c.in-Absent.ensures.only n (has_grown g.J.Doing.asks c.args.self.now.hand.seat.me.0 c.find_state.new.self.seat.me.0 c.find_state.ensures.grown n c.args.words.now has))
+
+pub returns-in-Lost-clause-only : goal.returns-in-Lost-clause-only
+returns-in-Lost-clause-only g c = λ n some has.
+    absurd (c.in-Absent.ensures.only n (has_grown g.J.Doing.asks c.args.self.now.hand.seat.me.0 c.find_state.new.self.seat.me.0 c.find_state.ensures.grown n c.args.words.now has))

@@ -14,6 +14,7 @@ use Rattle.sel_rows.specs.Closing.{AreClosedWords, IsClosedBy}
 use Rattle.sel_rows.specs.Tables.{id_of, setting_of}
 use Rattle.sel_rows.proofs.Joins.{last_of, front_of, seats_split}
 use Rattle.sel_rows.proofs.Closings.{closed_table}
+use Rattle.sel_rows.proofs.SnapshotIs.{lawful_snapshot}
 use Rattle.sel_rows.proofs.rows.Rows.close.Goals as goal
 
 -- the parts are the others and the last one
@@ -76,6 +77,8 @@ returns c =
       transitions = closes.rows;
       numbers = closes.states;
     } in
+    let by : (s : Snapshot) → IsSnapshotOf z ws s → IsClosedBy z c.args.parts s = closed_by z c.args.parts c.pop.new.self.items c.in-Some.part is ws w closes j.within.0 j.within.1 j.only in
     record {
-      closed = if_ok_of c.read_snapshot.result _ _ (λ s h. closed_by z c.args.parts c.pop.new.self.items c.in-Some.part is ws w closes j.within.0 j.within.1 j.only s (h z lawful)) c.read_snapshot.ensures;
+      closed = if_ok_of c.read_snapshot.result _ _ (λ s h. by s (h z lawful)) c.read_snapshot.ensures;
+      lawful = if_ok_of c.read_snapshot.result _ _ (λ s h. lawful_snapshot (id_of c.args.self) z c.args.parts c.requires.of s (by s (h z lawful))) c.read_snapshot.ensures;
     }
