@@ -1,0 +1,4 @@
+pub mod Cuts
+pub mod NamePutting
+pub mod Outcomes
+pub mod BestCovers

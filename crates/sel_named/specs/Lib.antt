@@ -1,0 +1,4 @@
+pub mod TextLines
+pub mod NamedTexts
+pub mod Laws
+pub mod Cutting
