@@ -1,9 +1,8 @@
 //! The program: the top call over real files and the standard streams.
 #![tactic(auto)]
 
-use sel_base::{FileShelf, NoMemory, OpenGate, StreamSink, write_all_of};
-use sel_cli::Status;
-use sel_cli::run::run;
+use sel_base::{FileShelf, NoMemory, OpenGate, StreamSink};
+use sel_cli::run_program;
 use std::alloc::Global;
 use std::env;
 use std::io::ErrorKind;
@@ -26,15 +25,11 @@ fn words_of(rt: &HostRuntime, alloc: Global) -> Result<Vec<String>, NoMemory> {
 
 fn main(rt: HostRuntime) -> ExitCode {
     let alloc = rt.alloc();
-    let mut err = StreamSink::new(rt.stderr());
-    let Ok(words) = words_of(&rt, alloc) else {
-        let _ = write_all_of(&mut err, b"no memory\n");
-        return ExitCode::from(Status::NoMemory.code());
-    };
+    let words = words_of(&rt, alloc);
     let mut shelf = FileShelf::new(&rt, alloc);
     let mut out = StreamSink::new(rt.stdout());
-    let (status, _) = run(
-        &rt, alloc, &words, &mut shelf, &mut out, &mut err, &OpenGate,
-    );
-    ExitCode::from(status.code())
+    let mut err = StreamSink::new(rt.stderr());
+    ExitCode::from(run_program(
+        &rt, alloc, words, &mut shelf, &mut out, &mut err, &OpenGate,
+    ))
 }

@@ -3,6 +3,8 @@ use Rattle.std.proofs.Common.{◌≡◌, ℕ, ◌<◌, ◌≤◌, Bool, true, fa
 use Rattle.std.specs.List.{list_all}
 use Rattle.std.specs.Io.KnownBytes.{append_known}
 use Rattle.sel_base.specs.Causes.{Rose}
+use Rattle.sel_base.specs.Puts.{SinkTold}
+use Rattle.sel_base.specs.Reads.{ShelfTold}
 use Rattle.sel_grammar.specs.declared.grammar.Grammar.{Grammar}
 use Rattle.sel_grammar.specs.declared.refusal.GrammarFault.{GrammarFault}
 use Rattle.sel_grammar_text.specs.GrammarText.{SpellsGrammar}
@@ -27,7 +29,7 @@ use Rattle.sel_answers.specs.declared.told.Told.{Told}
 use Rattle.sel_answers.specs.declared.told.Told.TheVariants as told
 use Rattle.sel_answers.specs.Output.{AreAnswers, AreAnswered, IsTreesAnswer, IsOutput, goal_of, is_covered}
 use Rattle.sel_cli.specs.Texts.{Request, IsTold, MayBe, IsGrammarText, HasGrammarText, HasForestText, AcceptsGrammar, Accepts, IsTooLong, IsRefusedGrammar, RefusesGrammar, RefusesForest, IsWhole, grammar_limit, forest_limit}
-use Rattle.sel_cli.specs.Ends.{Reads, EndsFor, Decides, IsExcused, IsAnswered, finished}
+use Rattle.sel_cli.specs.Ends.{EndsFor, Decides, IsExcused, ComesAsDecided, IsAnswered, IsComplete, finished}
 use Rattle.sel_cli.specs.declared.status.Status.{Status}
 use Rattle.sel_cli.specs.declared.status.Status.TheVariants.{Done, Usage, ReadFault, TooBig, BadGrammar, BadForest, WriteFault, NoMemory, Uncovered}
 
@@ -271,27 +273,27 @@ decides_found request ReadFault d = absurd d
 decides_found request WriteFault d = absurd d
 decides_found request NoMemory d = absurd d
 
-ends_found : (request : Request) (reads : Reads) (before after : ℕ) (name bytes : List ℕ) (status : Status)
-    → EndsFor request reads before after name bytes status → IsExcused status ⊎ Found MayBe request bytes status
-ends_found request reads before after name bytes Usage (inl e) = inr (None, e.1, refl)
-ends_found request reads before after name bytes TooBig (inl e) = inr (long_found MayBe request name (e.1).limit bytes (e.1).too_long)
-ends_found request reads before after name bytes (BadGrammar fault) (inl e) = inr (bad_grammar_found MayBe request name fault bytes e.1)
-ends_found request reads before after name bytes (BadForest fault) (inl e) = inr (bad_forest_found MayBe request name fault bytes e.1)
-ends_found request reads before after name bytes Done (inl e) = absurd e.1
-ends_found request reads before after name bytes Uncovered (inl e) = absurd e.1
-ends_found request reads before after name bytes Usage (inr e) = absurd e
-ends_found request reads before after name bytes TooBig (inr e) = absurd e
-ends_found request reads before after name bytes (BadGrammar fault) (inr e) = absurd e
-ends_found request reads before after name bytes (BadForest fault) (inr e) = absurd e
-ends_found request reads before after name bytes Done (inr e) = inr (whole_found MayBe request true bytes e)
-ends_found request reads before after name bytes Uncovered (inr e) = inr (whole_found MayBe request false bytes e)
-ends_found request reads before after name bytes ReadFault e = inl tt
-ends_found request reads before after name bytes WriteFault e = inl tt
-ends_found request reads before after name bytes NoMemory e = inl tt
+ends_found : (request : Request) (shelf shelf_now : ShelfTold) (out out_now : SinkTold) (name bytes : List ℕ) (status : Status)
+    → EndsFor request shelf shelf_now out out_now name bytes status → IsExcused status ⊎ Found MayBe request bytes status
+ends_found request shelf shelf_now out out_now name bytes Usage (inl e) = inr (None, e.1, refl)
+ends_found request shelf shelf_now out out_now name bytes TooBig (inl e) = inr (long_found MayBe request name (e.1).limit bytes (e.1).too_long)
+ends_found request shelf shelf_now out out_now name bytes (BadGrammar fault) (inl e) = inr (bad_grammar_found MayBe request name fault bytes e.1)
+ends_found request shelf shelf_now out out_now name bytes (BadForest fault) (inl e) = inr (bad_forest_found MayBe request name fault bytes e.1)
+ends_found request shelf shelf_now out out_now name bytes Done (inl e) = absurd e.1
+ends_found request shelf shelf_now out out_now name bytes Uncovered (inl e) = absurd e.1
+ends_found request shelf shelf_now out out_now name bytes Usage (inr e) = absurd e
+ends_found request shelf shelf_now out out_now name bytes TooBig (inr e) = absurd e
+ends_found request shelf shelf_now out out_now name bytes (BadGrammar fault) (inr e) = absurd e
+ends_found request shelf shelf_now out out_now name bytes (BadForest fault) (inr e) = absurd e
+ends_found request shelf shelf_now out out_now name bytes Done (inr e) = inr (whole_found MayBe request true bytes e)
+ends_found request shelf shelf_now out out_now name bytes Uncovered (inr e) = inr (whole_found MayBe request false bytes e)
+ends_found request shelf shelf_now out out_now name bytes ReadFault e = inl tt
+ends_found request shelf shelf_now out out_now name bytes WriteFault e = inl tt
+ends_found request shelf shelf_now out out_now name bytes NoMemory e = inl tt
 
-pub decided : (request : Request) (reads : Reads) (before after : ℕ) (name bytes : List ℕ) (result status : Status)
-    → EndsFor request reads before after name bytes result → Decides request status → (result ≡ status) ⊎ IsExcused result
-decided request reads before after name bytes result status ends d = go (ends_found request reads before after name bytes result ends) (decides_found request status d)
+pub decided : (request : Request) (shelf shelf_now : ShelfTold) (out out_now : SinkTold) (name bytes : List ℕ) (result : Status)
+    → EndsFor request shelf shelf_now out out_now name bytes result → ComesAsDecided request result
+decided request shelf shelf_now out out_now name bytes result ends status d = go (ends_found request shelf shelf_now out out_now name bytes result ends) (decides_found request status d)
   where
     go : IsExcused result ⊎ Found MayBe request bytes result → ((other : List ℕ) × Found IsTold request other status) → (result ≡ status) ⊎ IsExcused result
     go (inl x) k = inr x
@@ -301,28 +303,26 @@ decided request reads before after name bytes result status ends d = go (ends_fo
 
 -- ---- completeness
 
-excused_ends : (request : Request) (reads : Reads) (before after : ℕ) (name bytes : List ℕ) (result : Status)
-    → ¬ Rose reads.before reads.after → ¬ Rose before after → EndsFor request reads before after name bytes result → IsExcused result → result ≡ NoMemory
-excused_ends request reads before after name bytes NoMemory nr nw ends x = refl
-excused_ends request reads before after name bytes ReadFault nr nw (inl e) x = absurd (nr (e.1).rose)
-excused_ends request reads before after name bytes ReadFault nr nw (inr e) x = absurd e
-excused_ends request reads before after name bytes WriteFault nr nw (inl e) x = absurd e.1
-excused_ends request reads before after name bytes WriteFault nr nw (inr e) x = absurd (nw e.0)
-excused_ends request reads before after name bytes Done nr nw ends x = absurd x
-excused_ends request reads before after name bytes Uncovered nr nw ends x = absurd x
-excused_ends request reads before after name bytes Usage nr nw ends x = absurd x
-excused_ends request reads before after name bytes TooBig nr nw ends x = absurd x
-excused_ends request reads before after name bytes (BadGrammar fault) nr nw ends x = absurd x
-excused_ends request reads before after name bytes (BadForest fault) nr nw ends x = absurd x
+excused_ends : (request : Request) (shelf shelf_now : ShelfTold) (out out_now : SinkTold) (name bytes : List ℕ) (result : Status)
+    → ¬ Rose shelf.faults shelf_now.faults → ¬ Rose out.faults out_now.faults → EndsFor request shelf shelf_now out out_now name bytes result → IsExcused result → result ≡ NoMemory
+excused_ends request shelf shelf_now out out_now name bytes NoMemory nr nw ends x = refl
+excused_ends request shelf shelf_now out out_now name bytes ReadFault nr nw (inl e) x = absurd (nr (e.1).rose)
+excused_ends request shelf shelf_now out out_now name bytes ReadFault nr nw (inr e) x = absurd e
+excused_ends request shelf shelf_now out out_now name bytes WriteFault nr nw (inl e) x = absurd e.1
+excused_ends request shelf shelf_now out out_now name bytes WriteFault nr nw (inr e) x = absurd (nw e.0)
+excused_ends request shelf shelf_now out out_now name bytes Done nr nw ends x = absurd x
+excused_ends request shelf shelf_now out out_now name bytes Uncovered nr nw ends x = absurd x
+excused_ends request shelf shelf_now out out_now name bytes Usage nr nw ends x = absurd x
+excused_ends request shelf shelf_now out out_now name bytes TooBig nr nw ends x = absurd x
+excused_ends request shelf shelf_now out out_now name bytes (BadGrammar fault) nr nw ends x = absurd x
+excused_ends request shelf shelf_now out out_now name bytes (BadForest fault) nr nw ends x = absurd x
 
-pub completes : (request : Request) (reads : Reads) (before after : ℕ) (name bytes : List ℕ) (result : Status) (old new : Option (List ℕ))
-    → new ≡ append_known old bytes → EndsFor request reads before after name bytes result
-    → (task : Task) (g : Grammar) (forest : Option Forest) → Accepts IsTold request task g forest → ¬ Rose reads.before reads.after → ¬ Rose before after
-    → (result ≡ NoMemory) ⊎ IsAnswered task.job g forest old new result
-completes request reads before after name bytes result old new written ends task g forest accepts nr nw = go (ends_found request reads before after name bytes result ends)
+pub completes : (request : Request) (shelf shelf_now : ShelfTold) (out out_now : SinkTold) (name bytes : List ℕ) (result : Status)
+    → out_now.taken ≡ append_known out.taken bytes → EndsFor request shelf shelf_now out out_now name bytes result → IsComplete request shelf shelf_now out out_now result
+completes request shelf shelf_now out out_now name bytes result written ends task g forest accepts nr nw = go (ends_found request shelf shelf_now out out_now name bytes result ends)
   where
-    go : IsExcused result ⊎ Found MayBe request bytes result → (result ≡ NoMemory) ⊎ IsAnswered task.job g forest old new result
-    go (inl x) = inl (excused_ends request reads before after name bytes result nr nw ends x)
+    go : IsExcused result ⊎ Found MayBe request bytes result → (result ≡ NoMemory) ⊎ IsAnswered task.job g forest out out_now result
+    go (inl x) = inl (excused_ends request shelf shelf_now out out_now name bytes result nr nw ends x)
     go (inr (side, found, shows)) =
         let e : side ≡ Some (side_of task g forest) = same_found request side (Some (side_of task g forest)) found (accepted_found IsTold request task g forest accepts) in
         let shown = shown_output task g forest bytes result (subst (λ s. Shows s bytes result) e shows) in

@@ -1,4 +1,5 @@
 pub mod Endings
+pub mod Writing
+pub mod Serving
 pub mod Decided
-pub mod Tells
 pub mod Joining

@@ -1,8 +1,9 @@
--- How the top call ends, and why.
+-- How the top call ends, and why. Of a shelf and of a sink stands first what was told before the call, and then what is told after it.
 use Rattle.std.specs.Prelude.{◌≡◌, ℕ, ◌<◌, Bool, true, false, List, [], ◌++◌, Option, Some, None, option_and_then, IfSome, ◌⊎◌}
 use Rattle.std.specs.Io.KnownBytes.{append_known}
 use Rattle.sel_base.specs.Causes.{Rose}
-use Rattle.sel_base.specs.Reads.{LastRead}
+use Rattle.sel_base.specs.Puts.{SinkTold}
+use Rattle.sel_base.specs.Reads.{LastRead, ShelfTold}
 use Rattle.sel_grammar.specs.declared.grammar.Grammar.{Grammar}
 use Rattle.sel_forest.specs.declared.forest.Forest.{Forest}
 use Rattle.sel_words.specs.Words.{Job, Task, grammar_name, forest_name, last_name}
@@ -12,81 +13,72 @@ use Rattle.sel_cli.specs.Lines.{status_line}
 use Rattle.sel_cli.specs.declared.status.Status.{Status}
 use Rattle.sel_cli.specs.declared.status.Status.TheVariants.{Done, Usage, ReadFault, TooBig, BadGrammar, BadForest, WriteFault, NoMemory, Uncovered}
 
--- what a shelf tells of its reads: its count of faults before and after the call, and its last read
-pub record Reads : Type 0 where
-  pub before : ℕ
-  pub after : ℕ
-  pub last : LastRead
-
 -- the text of this name is the next to be read: the grammar's, unless it is shipped, or the forest's behind an accepted grammar
 abbrev pub IsWanted : Request → List ℕ → Type 0
 IsWanted request name = (task : Task) × (request.wanted ≡ Some task)
     × ((grammar_name task ≡ Some name) ⊎ ((grammar : Grammar) × AcceptsGrammar MayBe request task grammar × (forest_name task.job ≡ Some name)))
 
 -- the count of faults rose, and the last read was of this text and failed
-pub record IsUnread (request : Request) (reads : Reads) (name : List ℕ) : Type 0 where
+pub record IsUnread (request : Request) (before now : ShelfTold) (name : List ℕ) : Type 0 where
   pub is_wanted : IsWanted request name
-  pub rose : Rose reads.before reads.after
-  pub last_name : reads.last.name ≡ name
-  pub last_failed : reads.last.failed ≡ true
+  pub rose : Rose before.faults now.faults
+  pub last_name : now.last.name ≡ name
+  pub last_failed : now.last.failed ≡ true
 
 -- the text is longer than its limit, and the last read was of it and took more than that
-pub record IsTooBig (request : Request) (reads : Reads) (name : List ℕ) : Type 0 where
+pub record IsTooBig (request : Request) (last : LastRead) (name : List ℕ) : Type 0 where
   pub limit : ℕ
   pub too_long : IsTooLong MayBe request name limit
-  pub last_name : reads.last.name ≡ name
-  pub last_count : limit < reads.last.count
+  pub last_name : last.name ≡ name
+  pub last_count : limit < last.count
 
 -- why the call stopped before it wrote. `name` is that of the text of which the status speaks.
-abbrev pub StopsFor : Request → Reads → List ℕ → Status → Type 0
-StopsFor request reads name Usage = request.wanted ≡ None
-StopsFor request reads name ReadFault = IsUnread request reads name
-StopsFor request reads name TooBig = IsTooBig request reads name
-StopsFor request reads name (BadGrammar fault) = RefusesGrammar MayBe request name fault
-StopsFor request reads name (BadForest fault) = RefusesForest MayBe request name fault
-StopsFor request reads name NoMemory = Unit {0}
-StopsFor request reads name _ = ⊥
+abbrev pub StopsFor : Request → ShelfTold → ShelfTold → List ℕ → Status → Type 0
+StopsFor request before now name Usage = request.wanted ≡ None
+StopsFor request before now name ReadFault = IsUnread request before now name
+StopsFor request before now name TooBig = IsTooBig request now.last name
+StopsFor request before now name (BadGrammar fault) = RefusesGrammar MayBe request name fault
+StopsFor request before now name (BadForest fault) = RefusesForest MayBe request name fault
+StopsFor request before now name NoMemory = Unit {0}
+StopsFor request before now name _ = ⊥
 
 abbrev pub IsFrontOf : List ℕ → List ℕ → Type 0
 IsFrontOf front whole = (rest : List ℕ) × (whole ≡ front ++ rest)
 
--- the bytes are a front of the job's output
-abbrev pub IsFrontOfJob : Job → Grammar → Option Forest → List ℕ → Type 0
-IsFrontOfJob job grammar forest bytes = (covered : Bool) × (whole : List ℕ) × IsOutput job grammar forest covered whole × IsFrontOf bytes whole
+-- the bytes are a front of an output that is so
+abbrev pub IsFrontOfSome : (Bool → List ℕ → Type 0) → List ℕ → Type 0
+IsFrontOfSome Is bytes = (covered : Bool) × (whole : List ℕ) × Is covered whole × IsFrontOf bytes whole
 
 -- the bytes are a front of the output of a task whose texts are accepted
 abbrev pub IsFrontOfOutput : Request → List ℕ → Type 0
-IsFrontOfOutput request bytes = (task : Task) × (grammar : Grammar) × (forest : Option Forest) × Accepts MayBe request task grammar forest × IsFrontOfJob task.job grammar forest bytes
+IsFrontOfOutput request bytes =
+    (task : Task) × (grammar : Grammar) × (forest : Option Forest) × Accepts MayBe request task grammar forest × IsFrontOfSome (IsOutput task.job grammar forest) bytes
 
--- how the writing of an accepted task's output ended, where the sink's count of faults went from `before` to `after`
-abbrev pub WritesFor : Request → ℕ → ℕ → List ℕ → Status → Type 0
-WritesFor request before after bytes WriteFault = Rose before after × IsFrontOfOutput request bytes
-WritesFor request before after bytes NoMemory = IsFrontOfOutput request bytes
-WritesFor request before after bytes Uncovered = IsWhole MayBe request false bytes
-WritesFor request before after bytes Done = IsWhole MayBe request true bytes
-WritesFor request before after bytes _ = ⊥
-
--- the same of one job
-abbrev pub WritesJobFor : Job → Grammar → Option Forest → ℕ → ℕ → List ℕ → Status → Type 0
-WritesJobFor job grammar forest before after bytes WriteFault = Rose before after × IsFrontOfJob job grammar forest bytes
-WritesJobFor job grammar forest before after bytes NoMemory = (bytes ≡ []) ⊎ IsFrontOfJob job grammar forest bytes
-WritesJobFor job grammar forest before after bytes Uncovered = IsOutput job grammar forest false bytes
-WritesJobFor job grammar forest before after bytes Done = IsOutput job grammar forest true bytes
-WritesJobFor job grammar forest before after bytes _ = ⊥
+-- how the writing of an accepted task's output ended
+abbrev pub WritesFor : Request → SinkTold → SinkTold → List ℕ → Status → Type 0
+WritesFor request before now bytes WriteFault = Rose before.faults now.faults × IsFrontOfOutput request bytes
+WritesFor request before now bytes NoMemory = IsFrontOfOutput request bytes
+WritesFor request before now bytes Uncovered = IsWhole MayBe request false bytes
+WritesFor request before now bytes Done = IsWhole MayBe request true bytes
+WritesFor request before now bytes _ = ⊥
 
 -- why the call ended with this status: it stopped before it wrote, or it did an accepted task and wrote these bytes
-abbrev pub EndsFor : Request → Reads → ℕ → ℕ → List ℕ → List ℕ → Status → Type 0
-EndsFor request reads before after name bytes status = ((bytes ≡ []) × StopsFor request reads name status) ⊎ WritesFor request before after bytes status
+abbrev pub EndsFor : Request → ShelfTold → ShelfTold → SinkTold → SinkTold → List ℕ → List ℕ → Status → Type 0
+EndsFor request shelf shelf_now out out_now name bytes status = ((bytes ≡ []) × StopsFor request shelf shelf_now name status) ⊎ WritesFor request out out_now bytes status
 
--- Why the call ended so, the bytes that `out` took, and what `err` took of the status's line.
-pub record Ending (request : Request) (reads : Reads) (writes_before writes_after : ℕ) (out_before out_after err_before err_after : Option (List ℕ)) (status : Status) : Type 0 where
-  pub name : List ℕ
-  pub bytes : List ℕ
-  pub why : EndsFor request reads writes_before writes_after name bytes status
-  pub written : out_after ≡ append_known out_before bytes
+-- what `err` took is a front of the line of this status, which speaks of the text of this name
+pub record TellsLine (name : List ℕ) (status : Status) (before now : SinkTold) : Type 0 where
   pub line : List ℕ
   pub is_front : IsFrontOf line (status_line name status)
-  pub told : err_after ≡ append_known err_before line
+  pub told : now.taken ≡ append_known before.taken line
+
+-- Why the call ended so, the bytes that `out` took, and what `err` took of the status's line.
+pub record Ending (request : Request) (shelf shelf_now : ShelfTold) (out out_now err err_now : SinkTold) (status : Status) : Type 0 where
+  pub name : List ℕ
+  pub bytes : List ℕ
+  pub why : EndsFor request shelf shelf_now out out_now name bytes status
+  pub written : out_now.taken ≡ append_known out.taken bytes
+  pub line : TellsLine name status err err_now
 
 -- The words and the texts that the shelf tells decide this status.
 abbrev pub Decides : Request → Status → Type 0
@@ -105,32 +97,41 @@ IsExcused ReadFault = Unit {0}
 IsExcused WriteFault = Unit {0}
 IsExcused _ = ⊥
 
+-- What is decided comes, or what is excused.
+abbrev pub ComesAsDecided : Request → Status → Type 0
+ComesAsDecided request status = (decided : Status) → Decides request decided → (status ≡ decided) ⊎ IsExcused status
+
 -- the status of a whole run, by whether every tree is covered
 abbrev pub finished : Bool → Status
 finished true = Done
 finished false = Uncovered
 
 -- all of the job's output was taken, and the status tells whether every tree is covered
-pub record IsAnswered (job : Job) (grammar : Grammar) (forest : Option Forest) (out_before out_after : Option (List ℕ)) (status : Status) : Type 0 where
+pub record IsAnswered (job : Job) (grammar : Grammar) (forest : Option Forest) (before now : SinkTold) (status : Status) : Type 0 where
   pub covered : Bool
   pub bytes : List ℕ
   pub output : IsOutput job grammar forest covered bytes
-  pub written : out_after ≡ append_known out_before bytes
+  pub written : now.taken ≡ append_known before.taken bytes
   pub finishes : status ≡ finished covered
 
+-- Where the shelf tells texts that are accepted, and no count of faults rose, the task was done to the end, or there was no memory.
+abbrev pub IsComplete : Request → ShelfTold → ShelfTold → SinkTold → SinkTold → Status → Type 0
+IsComplete request shelf shelf_now out out_now status = (task : Task) (grammar : Grammar) (forest : Option Forest) → Accepts IsTold request task grammar forest
+    → ¬ Rose shelf.faults shelf_now.faults → ¬ Rose out.faults out_now.faults → (status ≡ NoMemory) ⊎ IsAnswered task.job grammar forest out out_now status
+
 -- the last read was of the text of this name, and didn't fail
-abbrev pub WasRead : Reads → List ℕ → Type 0
-WasRead reads name = (reads.last.name ≡ name) × (reads.last.failed ≡ false)
+abbrev pub WasRead : LastRead → List ℕ → Type 0
+WasRead last name = (last.name ≡ name) × (last.failed ≡ false)
 
 -- what was read last: the grammar's text where it is refused, the forest's where that is, and the last of the task's where it is done; nothing is
 -- said where no such text is read
-abbrev pub ReadsFor : Option Task → Reads → Status → Type 0
-ReadsFor wanted reads (BadGrammar fault) = IfSome (option_and_then grammar_name wanted) (WasRead reads)
-ReadsFor wanted reads (BadForest fault) = IfSome (option_and_then last_name wanted) (WasRead reads)
-ReadsFor wanted reads Done = IfSome (option_and_then last_name wanted) (WasRead reads)
-ReadsFor wanted reads Uncovered = IfSome (option_and_then last_name wanted) (WasRead reads)
-ReadsFor wanted reads WriteFault = IfSome (option_and_then last_name wanted) (WasRead reads)
-ReadsFor wanted reads _ = Unit {0}
+abbrev pub ReadsFor : Option Task → LastRead → Status → Type 0
+ReadsFor wanted last (BadGrammar fault) = IfSome (option_and_then grammar_name wanted) (WasRead last)
+ReadsFor wanted last (BadForest fault) = IfSome (option_and_then last_name wanted) (WasRead last)
+ReadsFor wanted last Done = IfSome (option_and_then last_name wanted) (WasRead last)
+ReadsFor wanted last Uncovered = IfSome (option_and_then last_name wanted) (WasRead last)
+ReadsFor wanted last WriteFault = IfSome (option_and_then last_name wanted) (WasRead last)
+ReadsFor wanted last _ = Unit {0}
 
 -- the words need no text of the shelf: they are no command, or a shipped grammar is printed, or a forest made of it
 abbrev pub NeedsNoText : Option Task → Type 0

@@ -1,29 +1,87 @@
--- How the parts of the top call end.
-use Rattle.std.specs.Prelude.{◌≡◌, ℕ, ◌<◌, Bool, true, false, List, length, Option, IfSome}
+-- How the parts of the top call end. Of a shelf and of a sink stands first what was told before the part, and then what is told after it.
+use Rattle.std.specs.Prelude.{◌≡◌, ℕ, ◌<◌, ◌≤◌, ◌⊎◌, Bool, true, false, List, [], length, Option, IfSome, Result, IfErr, IsErrOf, OnOk}
+use Rattle.std.specs.Io.KnownBytes.{append_known}
 use Rattle.sel_base.specs.Causes.{Rose}
+use Rattle.sel_base.specs.Puts.{SinkTold}
+use Rattle.sel_base.specs.Reads.{ShelfTold}
+use Rattle.sel_grammar.specs.declared.grammar.Grammar.{Grammar}
 use Rattle.sel_grammar.specs.declared.refusal.GrammarRefusal.{GrammarRefusal}
 use Rattle.sel_grammar.specs.declared.refusal.GrammarRefusal.TheVariants as refusal
-use Rattle.sel_cli.specs.Texts.{IsRefusedGrammar}
-use Rattle.sel_cli.specs.Ends.{Reads, IsFrontOf}
+use Rattle.sel_forest.specs.declared.forest.Forest.{Forest}
+use Rattle.sel_forest.specs.ForestText.{SpellsForest, IsForestFault}
+use Rattle.sel_forest.specs.Printed.{IsPrinted}
+use Rattle.sel_words.specs.Words.{Task}
+use Rattle.sel_cli.specs.Texts.{IsRefusedGrammar, request_of}
+use Rattle.sel_cli.specs.Ends.{IsFrontOfSome, EndsFor, WasRead, ReadsFor}
+use Rattle.sel_cli.specs.Runs.{KeepsShelf, KeepsOutput}
 use Rattle.sel_cli.specs.declared.status.Status.{Status}
-use Rattle.sel_cli.specs.declared.status.Status.TheVariants.{Done, ReadFault, TooBig, WriteFault, NoMemory, Uncovered}
+use Rattle.sel_cli.specs.declared.status.Status.TheVariants.{Done, ReadFault, TooBig, BadForest, WriteFault, NoMemory, Uncovered}
 
--- why the text of this name, of which the shelf tells this, was not read
-abbrev pub FetchesFor : Option (List ℕ) → Reads → List ℕ → ℕ → Status → Type 0
-FetchesFor told reads name limit ReadFault = Rose reads.before reads.after × (reads.last.name ≡ name) × (reads.last.failed ≡ true)
-FetchesFor told reads name limit TooBig = IfSome told (λ held. limit < length held) × (reads.last.name ≡ name) × (limit < reads.last.count)
-FetchesFor told reads name limit NoMemory = Unit {0}
-FetchesFor told reads name limit _ = ⊥
+-- ---- texts
+
+-- why the text of this name was not read
+abbrev pub FetchesFor : List ℕ → ℕ → ShelfTold → ShelfTold → Status → Type 0
+FetchesFor name limit before now ReadFault = Rose before.faults now.faults × (now.last.name ≡ name) × (now.last.failed ≡ true)
+FetchesFor name limit before now TooBig = IfSome (before.held name) (λ held. limit < length held) × (now.last.name ≡ name) × (limit < now.last.count)
+FetchesFor name limit before now NoMemory = Unit {0}
+FetchesFor name limit before now _ = ⊥
+
+-- What the reading of the text of this name does to the shelf, where there is one to be read: what is held stays, the count of faults rises at a failed
+-- read alone, and the last read was of this text. A call that stops here ends with a status that says no more.
+pub record ReadsText {T : Type 0} (wanted : Option Task) (name : Option (List ℕ)) (result : Result T Status) (before now : ShelfTold) : Type 0 where
+  pub unchanged : now.held ≡ before.held
+  pub later : before.faults ≤ now.faults
+  pub quiet : ¬ IsErrOf result ReadFault → now.faults ≡ before.faults
+  pub read : OnOk result (IfSome name (WasRead now.last))
+  pub unread : IfErr result (ReadsFor wanted now.last)
 
 -- why the grammar's text was refused
 abbrev pub JudgedFor : List ℕ → GrammarRefusal → Type 0
 JudgedFor text (refusal.Fault fault) = IsRefusedGrammar text fault
 JudgedFor text refusal.NoMemory = Unit {0}
 
--- how writing the bytes `whole` ended, where the sink's count of faults went from `before` to `after`
-abbrev pub PutsFor : Bool → List ℕ → ℕ → ℕ → List ℕ → Status → Type 0
-PutsFor covered whole before after bytes WriteFault = Rose before after × IsFrontOf bytes whole
-PutsFor covered whole before after bytes NoMemory = IsFrontOf bytes whole
-PutsFor covered whole before after bytes Uncovered = (covered ≡ false) × (bytes ≡ whole)
-PutsFor covered whole before after bytes Done = (covered ≡ true) × (bytes ≡ whole)
-PutsFor covered whole before after bytes _ = ⊥
+-- why no forest was made of the text
+abbrev pub StopsOver : Grammar → List ℕ → Status → Type 0
+StopsOver grammar text (BadForest fault) = IsForestFault grammar text fault
+StopsOver grammar text NoMemory = Unit {0}
+StopsOver grammar text _ = ⊥
+
+-- ---- outputs
+
+-- how the writing of an output that is so ended, of which these bytes were taken: all, a front, or none
+abbrev pub WritesSome : (Bool → List ℕ → Type 0) → SinkTold → SinkTold → List ℕ → Status → Type 0
+WritesSome Is before now bytes WriteFault = Rose before.faults now.faults × IsFrontOfSome Is bytes
+WritesSome Is before now bytes NoMemory = (bytes ≡ []) ⊎ IsFrontOfSome Is bytes
+WritesSome Is before now bytes Uncovered = Is false bytes
+WritesSome Is before now bytes Done = Is true bytes
+WritesSome Is before now bytes _ = ⊥
+
+-- An output that is so was written, at once or piece by piece, and the writing ended with this status.
+pub record Writes (Is : Bool → List ℕ → Type 0) (before now : SinkTold) (status : Status) : Type 0 where
+  pub bytes : List ℕ
+  pub why : WritesSome Is before now bytes status
+  pub written : now.taken ≡ append_known before.taken bytes
+  pub keeps : KeepsOutput before now status
+
+-- the output is this
+abbrev pub IsThis : Bool → List ℕ → Bool → List ℕ → Type 0
+IsThis whole_covered whole covered bytes = (covered ≡ whole_covered) × (bytes ≡ whole)
+
+-- the output is the forest in print
+abbrev pub IsForestInPrint : Grammar → Forest → Bool → List ℕ → Type 0
+IsForestInPrint grammar forest covered bytes = IsPrinted grammar forest bytes × (covered ≡ true)
+
+-- The text spells no forest, and nothing was written, or it spells one, and an output that is so over it was written.
+abbrev pub WritesOver : (Forest → Bool → List ℕ → Type 0) → Grammar → List ℕ → SinkTold → SinkTold → Status → Type 0
+WritesOver Is grammar text before now status =
+    (StopsOver grammar text status × (now ≡ before)) ⊎ ((forest : Forest) × SpellsForest grammar text forest × Writes (Is forest) before now status)
+
+-- ---- the whole
+
+-- How a call with these words ends with this status, which speaks of the text of this name, and what it does to the shelf and the output.
+pub record Serves (wanted : Option Task) (shelf shelf_now : ShelfTold) (out out_now : SinkTold) (name : List ℕ) (status : Status) : Type 0 where
+  pub bytes : List ℕ
+  pub why : EndsFor (request_of wanted shelf) shelf shelf_now out out_now name bytes status
+  pub written : out_now.taken ≡ append_known out.taken bytes
+  pub reads : KeepsShelf wanted shelf shelf_now status
+  pub writes : KeepsOutput out out_now status

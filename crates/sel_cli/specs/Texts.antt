@@ -1,5 +1,6 @@
 -- The texts that the words name, and what is made of them. `Is told text` says which texts may stand behind what a shelf tells of a name.
 use Rattle.std.specs.Prelude.{◌≡◌, ℕ, ◌<◌, ◌≤◌, Bool, List, length, Option, Some, None, IfSome, ◌⊎◌}
+use Rattle.sel_base.specs.Reads.{ShelfTold}
 use Rattle.sel_grammar.specs.declared.grammar.Grammar.{Grammar}
 use Rattle.sel_grammar.specs.declared.refusal.GrammarFault.{GrammarFault}
 use Rattle.sel_grammar_text.specs.GrammarText.{SpellsGrammar, IsGrammarFault}
@@ -30,6 +31,10 @@ MayBe told text = IfSome told (λ bytes. text ≡ bytes)
 pub record Request : Type 0 where
   pub wanted : Option Task
   pub held : List ℕ → Option (List ℕ)
+
+-- what a run is given that has words for this task, and a shelf that tells this
+abbrev pub request_of : Option Task → ShelfTold → Request
+request_of wanted shelf = record { wanted = wanted; held = shelf.held }
 
 -- this is a grammar's text, by its source and by what the shelf tells of its name: a shipped text is the stated one, whatever the shelf holds
 abbrev pub IsGrammarText : (Option (List ℕ) → List ℕ → Type 0) → GrammarSource → Option (List ℕ) → List ℕ → Type 0

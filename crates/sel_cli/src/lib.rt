@@ -3,12 +3,14 @@
 #![tactic(auto)]
 
 mod forest_answers;
-mod forest_job;
+mod jobs;
 mod lines;
+mod program;
 mod report;
 pub mod run;
 mod status;
 mod texts;
 
+pub use program::run_program;
 pub use report::Report;
 pub use status::Status;

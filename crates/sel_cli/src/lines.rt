@@ -1,7 +1,6 @@
 // The line that tells a status.
-ghost use Rattle.std.specs.Prelude.{◌≡◌, ◌≤◌, ◌++◌, List, ℕ, codes, OnOk};
-ghost use Rattle.std.specs.Io.KnownBytes.{append_known};
-ghost use Rattle.sel_cli.specs.Ends.{IsFrontOf};
+ghost use Rattle.std.specs.Prelude.{◌≡◌, ◌≤◌, ◌++◌, codes, OnOk};
+ghost use Rattle.sel_cli.specs.Ends.{TellsLine};
 ghost use Rattle.sel_cli.specs.Lines.{status_line, grammar_fault_line, forest_fault_line, place_text, kind_text, grammar_kind_name, forest_kind_name};
 
 use crate::status::Status;
@@ -156,8 +155,7 @@ fn put_line(text: &mut Vec<u8>, name: &[u8], status: Status) -> Result<(), NoMem
 
 /// Puts the status's line. A fault there changes nothing.
 pub fn tell<E: Sink>(alloc: Global, name: &str, status: Status, err: &mut E)
-    ensures line { (line : List ℕ) × IsFrontOf line (status_line name.now status)
-        × ((E.told err.new).taken ≡ append_known ((E.told err.old).taken) line) }
+    ensures line { TellsLine name.now status (E.told err.old) (E.told err.new) }
     ensures later { (E.told err.old).faults ≤ (E.told err.new).faults }
 {
     let mut text = Vec::new(alloc);

@@ -1,12 +1,12 @@
 // The texts, and the grammar that is accepted.
-ghost use Rattle.std.specs.Prelude.{◌≡◌, ◌≤◌, Some, None, length, IfOk, IfErr, IfSome, IsErrOf, OnOk};
+ghost use Rattle.std.specs.Prelude.{◌≡◌, ◌≤◌, Option, Some, None, length, IfOk, IfErr};
 ghost use Rattle.sel_grammar_text.specs.GrammarText.{SpellsGrammar};
 ghost use Rattle.sel_items.specs.Laws.{IsAcceptedForm};
 ghost use Rattle.sel_words.specs.Names.{task_for, source_for, IsShort};
-ghost use Rattle.sel_cli.specs.Texts.{MayBe, HasGrammarText, AcceptsGrammar, grammar_limit};
-ghost use Rattle.sel_cli.specs.Ends.{StopsFor, WasRead, ReadsFor};
 ghost use Rattle.sel_words.specs.Words.{Task, grammar_name};
-ghost use Rattle.sel_cli.specs.Parts.{FetchesFor, JudgedFor};
+ghost use Rattle.sel_cli.specs.Texts.{MayBe, HasGrammarText, AcceptsGrammar, grammar_limit, request_of};
+ghost use Rattle.sel_cli.specs.Ends.{StopsFor};
+ghost use Rattle.sel_cli.specs.Parts.{FetchesFor, ReadsText, JudgedFor};
 
 use crate::status::Status;
 use sel_answers::text::put;
@@ -29,13 +29,8 @@ pub fn fetch<S: Shelf>(
 ) -> Result<Vec<u8>, Status>
     ensures text { IfOk result (λ text. MayBe ((S.told shelf.old).held name.now) text.items) }
     ensures within { IfOk result (λ text. length text.items ≤ limit) }
-    ensures refused { IfErr result (FetchesFor ((S.told shelf.old).held name.now)
-        (record { before = (S.told shelf.old).faults; after = (S.told shelf.new).faults; last = (S.told shelf.new).last }) name.now limit) }
-    ensures unchanged { (S.told shelf.new).held ≡ (S.told shelf.old).held }
-    ensures later { (S.told shelf.old).faults ≤ (S.told shelf.new).faults }
-    ensures quiet { (¬ IsErrOf result Status.ReadFault) → (S.told shelf.new).faults ≡ (S.told shelf.old).faults }
-    ensures read { OnOk result (WasRead (record { before = (S.told shelf.old).faults; after = (S.told shelf.new).faults; last = (S.told shelf.new).last }) name.now) }
-    ensures unread { IfErr result (λ status. (task : Task) → ReadsFor (Some task) (record { before = (S.told shelf.old).faults; after = (S.told shelf.new).faults; last = (S.told shelf.new).last }) status) }
+    ensures refused { IfErr result (FetchesFor name.now limit (S.told shelf.old) (S.told shelf.new)) }
+    ensures reads { (wanted : Option Task) → ReadsText wanted (Some name.now) result (S.told shelf.old) (S.told shelf.new) }
 {
     match shelf.read(alloc, name, limit) {
         Ok(text) => Ok(text),
@@ -60,15 +55,10 @@ fn grammar_text<S: Shelf>(
     command: Command<'_>,
 ) -> Result<Vec<u8>, Status>
     requires short { IsShort (source_for command.source) }
-    ensures text { IfOk result (λ text. HasGrammarText MayBe (record { wanted = Some (task_for command.entry); held = (S.told shelf.old).held }) (task_for command.entry) text.items) }
+    ensures text { IfOk result (λ text. HasGrammarText MayBe (request_of (Some (task_for command.entry)) (S.told shelf.old)) (task_for command.entry) text.items) }
     ensures within { IfOk result (λ text. length text.items ≤ grammar_limit) }
-    ensures refused { IfErr result (StopsFor (record { wanted = Some (task_for command.entry); held = (S.told shelf.old).held })
-        (record { before = (S.told shelf.old).faults; after = (S.told shelf.new).faults; last = (S.told shelf.new).last }) command.entry.grammar.now) }
-    ensures unchanged { (S.told shelf.new).held ≡ (S.told shelf.old).held }
-    ensures later { (S.told shelf.old).faults ≤ (S.told shelf.new).faults }
-    ensures quiet { (¬ IsErrOf result Status.ReadFault) → (S.told shelf.new).faults ≡ (S.told shelf.old).faults }
-    ensures read { OnOk result (IfSome (grammar_name (task_for command.entry)) (WasRead (record { before = (S.told shelf.old).faults; after = (S.told shelf.new).faults; last = (S.told shelf.new).last }))) }
-    ensures unread { IfErr result (λ status. (task : Task) → ReadsFor (Some task) (record { before = (S.told shelf.old).faults; after = (S.told shelf.new).faults; last = (S.told shelf.new).last }) status) }
+    ensures refused { IfErr result (StopsFor (request_of (Some (task_for command.entry)) (S.told shelf.old)) (S.told shelf.old) (S.told shelf.new) command.entry.grammar.now) }
+    ensures reads { ReadsText (Some (task_for command.entry)) (grammar_name (task_for command.entry)) result (S.told shelf.old) (S.told shelf.new) }
     ensures untouched { grammar_name (task_for command.entry) ≡ None → shelf.new ≡ shelf.old }
 {
     match command.source {
@@ -108,15 +98,10 @@ pub fn accept_grammar<S: Shelf>(
     command: Command<'_>,
 ) -> Result<Accepted, Status>
     requires short { IsShort (source_for command.source) }
-    ensures accepted { IfOk result (λ accepted. AcceptsGrammar MayBe (record { wanted = Some (task_for command.entry); held = (S.told shelf.old).held }) (task_for command.entry) accepted.grammar) }
+    ensures accepted { IfOk result (λ accepted. AcceptsGrammar MayBe (request_of (Some (task_for command.entry)) (S.told shelf.old)) (task_for command.entry) accepted.grammar) }
     ensures form { IfOk result (λ accepted. IsAcceptedForm accepted.grammar accepted.normal) }
-    ensures refused { IfErr result (StopsFor (record { wanted = Some (task_for command.entry); held = (S.told shelf.old).held })
-        (record { before = (S.told shelf.old).faults; after = (S.told shelf.new).faults; last = (S.told shelf.new).last }) command.entry.grammar.now) }
-    ensures unchanged { (S.told shelf.new).held ≡ (S.told shelf.old).held }
-    ensures later { (S.told shelf.old).faults ≤ (S.told shelf.new).faults }
-    ensures quiet { (¬ IsErrOf result Status.ReadFault) → (S.told shelf.new).faults ≡ (S.told shelf.old).faults }
-    ensures read { OnOk result (IfSome (grammar_name (task_for command.entry)) (WasRead (record { before = (S.told shelf.old).faults; after = (S.told shelf.new).faults; last = (S.told shelf.new).last }))) }
-    ensures unread { IfErr result (ReadsFor (Some (task_for command.entry)) (record { before = (S.told shelf.old).faults; after = (S.told shelf.new).faults; last = (S.told shelf.new).last })) }
+    ensures refused { IfErr result (StopsFor (request_of (Some (task_for command.entry)) (S.told shelf.old)) (S.told shelf.old) (S.told shelf.new) command.entry.grammar.now) }
+    ensures reads { ReadsText (Some (task_for command.entry)) (grammar_name (task_for command.entry)) result (S.told shelf.old) (S.told shelf.new) }
     ensures untouched { grammar_name (task_for command.entry) ≡ None → shelf.new ≡ shelf.old }
 {
     let text = match grammar_text(alloc, shelf, command) {

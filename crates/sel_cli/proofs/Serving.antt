@@ -1,0 +1,198 @@
+-- From the parts of a call to the whole: how its words were served.
+use Rattle.std.proofs.Common.{◌≡◌, ◌≢◌, ℕ, ◌≤◌, Bool, List, [], length, Option, Some, None, option_and_then, Result, Ok, Err, IfErr, IfSome, IsErrOf, refl, sym, ap, subst, ◌∙◌, inl, inr, arith}
+use Rattle.sel_base.specs.Causes.{Rose}
+use Rattle.sel_base.specs.Puts.{SinkTold}
+use Rattle.sel_base.specs.Reads.{LastRead, ShelfTold}
+use Rattle.sel_grammar.specs.declared.grammar.Grammar.{Grammar}
+use Rattle.sel_forest.specs.declared.forest.Forest.{Forest}
+use Rattle.sel_words.specs.Words.{Job, Task, grammar_name, forest_name, last_name, later_name}
+use Rattle.sel_answers.specs.Output.{IsOutput}
+use Rattle.sel_cli.specs.Texts.{Request, MayBe, AcceptsGrammar, AcceptsForest, Accepts, forest_limit, request_of}
+use Rattle.sel_cli.specs.Ends.{StopsFor, WritesFor, EndsFor, WasRead, ReadsFor}
+use Rattle.sel_cli.specs.Runs.{KeepsShelf, KeepsOutput}
+use Rattle.sel_cli.specs.Parts.{ReadsText, StopsOver, WritesSome, Writes, WritesOver, Serves}
+use Rattle.sel_cli.specs.declared.status.Status.{Status}
+use Rattle.sel_cli.specs.declared.status.Status.TheVariants.{Done, Usage, ReadFault, TooBig, BadGrammar, BadForest, WriteFault, NoMemory, Uncovered}
+use Rattle.sel_cli.proofs.Writing.{nothing_taken, output_kept}
+
+-- ---- calls that stop before they write
+
+not_ok : {T : Type 0} (x : T) (status : Status) → IsErrOf (Ok x) status → ⊥
+not_ok x status e = cc
+
+not_other : {T : Type 0} (status other : Status) → status ≢ other → IsErrOf {T} (Err status) other → ⊥
+not_other status other differs e = absurd (differs (cc))
+
+-- a text was not read, or not accepted
+pub stop_serves : {T : Type 0} (wanted : Option Task) (read : Option (List ℕ)) (name : List ℕ) (shelf shelf_now : ShelfTold) (out : SinkTold) (status : Status)
+    → StopsFor (request_of wanted shelf) shelf shelf_now name status → ReadsText {T} wanted read (Err status) shelf shelf_now → Serves wanted shelf shelf_now out out name status
+stop_serves wanted read name shelf shelf_now out status stops r = record {
+  bytes = [];
+  why = inl (refl, stops);
+  written = nothing_taken out.taken;
+  reads = record { unchanged = r.unchanged; later = r.later; quiet = λ differs. r.quiet (not_other status ReadFault differs); read = r.unread };
+  writes = output_kept out status;
+}
+
+-- the shelf was asked for nothing
+pub unasked_serves : (wanted : Option Task) (name : List ℕ) (shelf : ShelfTold) (out : SinkTold) (status : Status)
+    → StopsFor (request_of wanted shelf) shelf shelf name status → ReadsFor wanted shelf.last status → Serves wanted shelf shelf out out name status
+unasked_serves wanted name shelf out status stops last = record {
+  bytes = [];
+  why = inl (refl, stops);
+  written = nothing_taken out.taken;
+  reads = record { unchanged = refl; later = omega arith; quiet = λ no. refl; read = last };
+  writes = output_kept out status;
+}
+
+-- ---- calls that write
+
+-- an accepted task was done
+ends_by : (request : Request) (task : Task) (grammar : Grammar) (forest : Option Forest) (shelf shelf_now : ShelfTold) (out out_now : SinkTold) (name bytes : List ℕ) (status : Status)
+    → Accepts MayBe request task grammar forest → WritesSome (IsOutput task.job grammar forest) out out_now bytes status → EndsFor request shelf shelf_now out out_now name bytes status
+ends_by request task grammar forest shelf shelf_now out out_now name bytes WriteFault a w = inr (w.0, (task, grammar, forest, a, w.1))
+ends_by request task grammar forest shelf shelf_now out out_now name bytes NoMemory a (inl none) = inl (none, tt)
+ends_by request task grammar forest shelf shelf_now out out_now name bytes NoMemory a (inr front) = inr (task, grammar, forest, a, front)
+ends_by request task grammar forest shelf shelf_now out out_now name bytes Done a w = inr (task, grammar, forest, a, w)
+ends_by request task grammar forest shelf shelf_now out out_now name bytes Uncovered a w = inr (task, grammar, forest, a, w)
+ends_by request task grammar forest shelf shelf_now out out_now name bytes Usage a w = absurd w
+ends_by request task grammar forest shelf shelf_now out out_now name bytes ReadFault a w = absurd w
+ends_by request task grammar forest shelf shelf_now out out_now name bytes TooBig a w = absurd w
+ends_by request task grammar forest shelf shelf_now out out_now name bytes (BadGrammar fault) a w = absurd w
+ends_by request task grammar forest shelf shelf_now out out_now name bytes (BadForest fault) a w = absurd w
+
+-- and the last of its texts was the last that was read
+read_by : (Is : Bool → List ℕ → Type 0) (task : Task) (last : LastRead) (out out_now : SinkTold) (bytes : List ℕ) (status : Status)
+    → IfSome (last_name task) (WasRead last) → WritesSome Is out out_now bytes status → ReadsFor (Some task) last status
+read_by Is task last out out_now bytes WriteFault r w = r
+read_by Is task last out out_now bytes NoMemory r w = tt
+read_by Is task last out out_now bytes Done r w = r
+read_by Is task last out out_now bytes Uncovered r w = r
+read_by Is task last out out_now bytes Usage r w = absurd w
+read_by Is task last out out_now bytes ReadFault r w = absurd w
+read_by Is task last out out_now bytes TooBig r w = absurd w
+read_by Is task last out out_now bytes (BadGrammar fault) r w = absurd w
+read_by Is task last out out_now bytes (BadForest fault) r w = absurd w
+
+-- the texts of a task were read and accepted, and its output was written
+pub done_serves : {T : Type 0} (x : T) (task : Task) (grammar : Grammar) (forest : Option Forest) (read : Option (List ℕ)) (name : List ℕ) (shelf shelf_now : ShelfTold) (out out_now : SinkTold) (status : Status)
+    → Accepts MayBe (request_of (Some task) shelf) task grammar forest → last_name task ≡ read → ReadsText (Some task) read (Ok x) shelf shelf_now
+    → Writes (IsOutput task.job grammar forest) out out_now status → Serves (Some task) shelf shelf_now out out_now name status
+done_serves x task grammar forest read name shelf shelf_now out out_now status a last r w = record {
+  bytes = w.bytes;
+  why = ends_by (request_of (Some task) shelf) task grammar forest shelf shelf_now out out_now name w.bytes status a w.why;
+  written = w.written;
+  reads = record {
+    unchanged = r.unchanged;
+    later = r.later;
+    quiet = λ no. r.quiet (not_ok x ReadFault);
+    read = read_by (IsOutput task.job grammar forest) task shelf_now.last out out_now w.bytes status (subst (λ n. IfSome n (WasRead shelf_now.last)) (sym last) r.read) w.why;
+  };
+  writes = w.keeps;
+}
+
+-- a task over a grammar alone
+pub alone_serves : {T : Type 0} (x : T) (task : Task) (grammar : Grammar) (name : List ℕ) (shelf shelf_now : ShelfTold) (out out_now : SinkTold) (status : Status)
+    → forest_name task.job ≡ None → AcceptsGrammar MayBe (request_of (Some task) shelf) task grammar → ReadsText (Some task) (grammar_name task) (Ok x) shelf shelf_now
+    → Writes (IsOutput task.job grammar None) out out_now status → Serves (Some task) shelf shelf_now out out_now name status
+alone_serves x task grammar name shelf shelf_now out out_now status none a r w =
+    done_serves x task grammar None (grammar_name task) name shelf shelf_now out out_now status (a, none) (ap (λ n. later_name (grammar_name task) n) none) r w
+
+-- ---- a task over a forest
+
+-- the forest's text spells none
+refused_stops : (task : Task) (grammar : Grammar) (name text : List ℕ) (shelf shelf_now : ShelfTold) (status : Status)
+    → AcceptsGrammar MayBe (request_of (Some task) shelf) task grammar → forest_name task.job ≡ Some name → MayBe (shelf.held name) text → length text ≤ forest_limit
+    → StopsOver grammar text status → StopsFor (request_of (Some task) shelf) shelf shelf_now name status
+refused_stops task grammar name text shelf shelf_now (BadForest fault) a n is within stops = record {
+  task = task;
+  grammar = grammar;
+  text = text;
+  has = record { accepts_grammar = a; is_named = n; is_text = is };
+  within = within;
+  refused = stops;
+}
+refused_stops task grammar name text shelf shelf_now NoMemory a n is within stops = tt
+refused_stops task grammar name text shelf shelf_now Done a n is within stops = absurd stops
+refused_stops task grammar name text shelf shelf_now Usage a n is within stops = absurd stops
+refused_stops task grammar name text shelf shelf_now ReadFault a n is within stops = absurd stops
+refused_stops task grammar name text shelf shelf_now TooBig a n is within stops = absurd stops
+refused_stops task grammar name text shelf shelf_now (BadGrammar fault) a n is within stops = absurd stops
+refused_stops task grammar name text shelf shelf_now WriteFault a n is within stops = absurd stops
+refused_stops task grammar name text shelf shelf_now Uncovered a n is within stops = absurd stops
+
+refused_reads : (task : Task) (grammar : Grammar) (text : List ℕ) (last : LastRead) (status : Status) → StopsOver grammar text status → IfSome (last_name task) (WasRead last) → ReadsFor (Some task) last status
+refused_reads task grammar text last (BadForest fault) stops r = r
+refused_reads task grammar text last NoMemory stops r = tt
+refused_reads task grammar text last Done stops r = absurd stops
+refused_reads task grammar text last Usage stops r = absurd stops
+refused_reads task grammar text last ReadFault stops r = absurd stops
+refused_reads task grammar text last TooBig stops r = absurd stops
+refused_reads task grammar text last (BadGrammar fault) stops r = absurd stops
+refused_reads task grammar text last WriteFault stops r = absurd stops
+refused_reads task grammar text last Uncovered stops r = absurd stops
+
+pub over_serves : {T : Type 0} (x : T) (task : Task) (grammar : Grammar) (name text : List ℕ) (shelf shelf_now : ShelfTold) (out out_now : SinkTold) (status : Status)
+    → AcceptsGrammar MayBe (request_of (Some task) shelf) task grammar → forest_name task.job ≡ Some name → MayBe (shelf.held name) text → length text ≤ forest_limit
+    → ReadsText (Some task) (Some name) (Ok x) shelf shelf_now → WritesOver (λ forest. IsOutput task.job grammar (Some forest)) grammar text out out_now status
+    → Serves (Some task) shelf shelf_now out out_now name status
+over_serves x task grammar name text shelf shelf_now out out_now status a n is within r = go
+  where
+    last : last_name task ≡ Some name
+    last = ap (λ m. later_name (grammar_name task) m) n
+
+    go : WritesOver (λ forest. IsOutput task.job grammar (Some forest)) grammar text out out_now status → Serves (Some task) shelf shelf_now out out_now name status
+    go (inl (stops, same)) =
+        subst (λ sink. Serves (Some task) shelf shelf_now out sink name status) (sym same)
+        (stop_serves {T} (Some task) (Some name) name shelf shelf_now out status (refused_stops task grammar name text shelf shelf_now status a n is within stops)
+          (record {
+            unchanged = r.unchanged;
+            later = r.later;
+            quiet = λ no. r.quiet (not_ok x ReadFault);
+            read = tt;
+            unread = refused_reads task grammar text shelf_now.last status stops (subst (λ m. IfSome m (WasRead shelf_now.last)) (sym last) r.read);
+          }))
+    go (inr (forest, spelled, w)) =
+        done_serves x task grammar (Some forest) (Some name) name shelf shelf_now out out_now status
+        (record { name = name; text = text; has = record { accepts_grammar = a; is_named = n; is_text = is }; within = within; spelled = spelled }) last r w
+
+-- ---- one part after another
+
+-- what stopped by the reads of the later part stopped so by those of both
+stops_later : (wanted : Option Task) (before middle now : ShelfTold) (name : List ℕ) (status : Status) → middle.held ≡ before.held → middle.faults ≡ before.faults
+    → StopsFor (request_of wanted middle) middle now name status → StopsFor (request_of wanted before) before now name status
+stops_later wanted before middle now name status held faults stops = go status (subst (λ h. StopsFor (record { wanted = wanted; held = h }) middle now name status) held stops)
+  where
+    go : (status : Status) → StopsFor (request_of wanted before) middle now name status → StopsFor (request_of wanted before) before now name status
+    go ReadFault s = record { is_wanted = s.is_wanted; rose = subst (λ n. Rose n now.faults) faults s.rose; last_name = s.last_name; last_failed = s.last_failed }
+    go TooBig s = s
+    go Usage s = s
+    go (BadGrammar fault) s = s
+    go (BadForest fault) s = s
+    go NoMemory s = s
+    go Done s = absurd s
+    go WriteFault s = absurd s
+    go Uncovered s = absurd s
+
+-- a text was read, and then the rest was served
+pub then_serves : {T : Type 0} (x : T) (wanted : Option Task) (read : Option (List ℕ)) (before middle now : ShelfTold) (out out_now : SinkTold) (name : List ℕ) (status : Status)
+    → ReadsText wanted read (Ok x) before middle → Serves wanted middle now out out_now name status → Serves wanted before now out out_now name status
+then_serves x wanted read before middle now out out_now name status r s = record {
+  bytes = s.bytes;
+  why = go s.why;
+  written = s.written;
+  reads = record {
+    unchanged = (s.reads).unchanged ∙ r.unchanged;
+    later = let first = r.later in let second = (s.reads).later in omega arith;
+    quiet = λ no. (s.reads).quiet no ∙ same;
+    read = (s.reads).read;
+  };
+  writes = s.writes;
+}
+  where
+    same : middle.faults ≡ before.faults
+    same = r.quiet (not_ok x ReadFault)
+
+    go : EndsFor (request_of wanted middle) middle now out out_now name s.bytes status → EndsFor (request_of wanted before) before now out out_now name s.bytes status
+    go (inl (none, stops)) = inl (none, stops_later wanted before middle now name status r.unchanged same stops)
+    go (inr w) = inr (subst (λ h. WritesFor (record { wanted = wanted; held = h }) out out_now s.bytes status) r.unchanged w)

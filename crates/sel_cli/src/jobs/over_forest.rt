@@ -1,0 +1,109 @@
+// A job over a forest: its text is read, and the job is done with what it spells.
+ghost use Rattle.std.specs.Prelude.{◌≡◌, ◌≤◌, Some, List, ℕ, length, IfOk, IfErr};
+ghost use Rattle.sel_forest.specs.ForestText.{SpellsForest};
+ghost use Rattle.sel_forest.specs.Valid.{IsValidForest};
+ghost use Rattle.sel_forest.specs.declared.forest.Forest.{Forest as AnyForest};
+ghost use Rattle.sel_items.specs.Laws.{IsAcceptedForm};
+ghost use Rattle.sel_words.specs.Settings.{AreWithinBounds};
+ghost use Rattle.sel_words.specs.Names.{task_for};
+ghost use Rattle.sel_words.specs.Words.{OverForest};
+ghost use Rattle.sel_answers.specs.Output.{AreAnswered, IsOutput};
+ghost use Rattle.sel_cli.specs.Texts.{MayBe, AcceptsGrammar, forest_limit, request_of};
+ghost use Rattle.sel_cli.specs.Parts.{StopsOver, WritesOver, Serves};
+
+use crate::jobs::Ended;
+use crate::jobs::answers::answer;
+use crate::jobs::print_forest::print_forest;
+use crate::status::Status;
+use crate::texts::{Accepted, fetch};
+use sel_answers::Told;
+use sel_base::{Gate, Shelf, Sink};
+use sel_forest::{Forest, ForestRefusal, read_forest};
+use sel_words::{Command, Mode, Settings};
+use std::alloc::Global;
+
+/// The greatest length of a forest's text, in bytes.
+const FOREST_LIMIT: usize = 67_108_864;
+
+// The forest that the text spells. The text isn't kept.
+fn forest_in(alloc: Global, accepted: &Accepted, text: Vec<u8>) -> Result<Forest, Status>
+    requires form { IsAcceptedForm accepted.now.grammar accepted.now.normal }
+    requires short { length text.items ≤ forest_limit }
+    ensures spelled { IfOk result (λ forest. SpellsForest accepted.now.grammar text.items forest) }
+    ensures valid { IfOk result (λ forest. IsValidForest accepted.now.grammar forest) }
+    ensures refused { IfErr result (StopsOver accepted.now.grammar text.items) }
+{
+    match read_forest(alloc, &accepted.grammar, &text) {
+        Ok(forest) => Ok(forest),
+        Err(ForestRefusal::Fault(fault)) => Err(Status::BadForest(fault)),
+        Err(ForestRefusal::NoMemory) => Err(Status::NoMemory),
+    }
+}
+
+// Answers the trees of the forest that the text spells.
+fn answer_in<K: Sink, G: Gate>(
+    alloc: Global,
+    accepted: &Accepted,
+    settings: Settings,
+    text: Vec<u8>,
+    told: Told,
+    out: &mut K,
+    gate: &G,
+) -> Status
+    requires form { IsAcceptedForm accepted.now.grammar accepted.now.normal }
+    requires settings { AreWithinBounds settings }
+    requires short { length text.items ≤ forest_limit }
+    ensures done { WritesOver (λ (forest : AnyForest). AreAnswered accepted.now.grammar told forest.trees) accepted.now.grammar text.items (K.told out.old) (K.told out.new) result }
+{
+    match forest_in(alloc, accepted, text) {
+        Ok(forest) => answer(alloc, accepted, settings, &forest, told, out, gate),
+        Err(status) => status,
+    }
+}
+
+// Does the job with what the text spells.
+fn serve_text<K: Sink, G: Gate>(
+    alloc: Global,
+    mode: Mode,
+    accepted: &Accepted,
+    settings: Settings,
+    text: Vec<u8>,
+    out: &mut K,
+    gate: &G,
+) -> Status
+    requires form { IsAcceptedForm accepted.now.grammar accepted.now.normal }
+    requires settings { AreWithinBounds settings }
+    requires short { length text.items ≤ forest_limit }
+    ensures done { (name : List ℕ) → WritesOver (λ forest. IsOutput (OverForest mode name) accepted.now.grammar (Some forest)) accepted.now.grammar text.items (K.told out.old) (K.told out.new) result }
+{
+    match mode {
+        Mode::Cover => answer_in(alloc, accepted, settings, text, Told::Covers, out, gate),
+        Mode::Select => answer_in(alloc, accepted, settings, text, Told::Texts, out, gate),
+        Mode::Summary => answer_in(alloc, accepted, settings, text, Told::Summary, out, gate),
+        Mode::Print => print_forest(alloc, accepted, text, out),
+    }
+}
+
+/// Reads the forest of this name under the accepted grammar, and does the job with it.
+pub fn serve_forest<'a, S: Shelf, K: Sink, G: Gate>(
+    alloc: Global,
+    command: Command<'a>,
+    mode: Mode,
+    name: &'a str,
+    accepted: &Accepted,
+    shelf: &mut S,
+    out: &mut K,
+    gate: &G,
+) -> Ended<'a>
+    requires grammar { AcceptsGrammar MayBe (request_of (Some (task_for command)) (S.told shelf.old)) (task_for command) accepted.now.grammar }
+    requires form { IsAcceptedForm accepted.now.grammar accepted.now.normal }
+    requires settings { AreWithinBounds command.settings }
+    requires job { (task_for command).job ≡ OverForest mode name.now }
+    ensures served { Serves (Some (task_for command.entry)) (S.told shelf.old) (S.told shelf.new) (K.told out.old) (K.told out.new) result.name.now result.status }
+{
+    let status = match fetch(alloc, shelf, name, FOREST_LIMIT) {
+        Ok(text) => serve_text(alloc, mode, accepted, command.settings, text, out, gate),
+        Err(status) => status,
+    };
+    Ended { status, name }
+}
