@@ -4,7 +4,7 @@ ghost use Rattle.sel_cli.specs.Ends.{TellsLine};
 ghost use Rattle.sel_cli.specs.Lines.{status_line, grammar_fault_line, forest_fault_line, place_text, kind_text, grammar_kind_name, forest_kind_name};
 
 use crate::status::Status;
-use sel_answers::text::{put, put_number};
+use sel_base::text::{put, put_number};
 use sel_base::{NoMemory, Sink, write_all_of};
 use sel_forest::{ForestFault, limits as forest_limits};
 use sel_grammar::{GrammarFault, limits as grammar_limits};

@@ -9,7 +9,7 @@ ghost use Rattle.sel_cli.specs.Ends.{StopsFor};
 ghost use Rattle.sel_cli.specs.Parts.{FetchesFor, ReadsText, JudgedFor};
 
 use crate::status::Status;
-use sel_answers::text::put;
+use sel_base::text::put;
 use sel_base::{NoMemory, Shelf, ShelfFault};
 use sel_grammar::{Grammar, GrammarRefusal};
 use sel_grammar_text::read_grammar;

@@ -2,6 +2,7 @@
 use Rattle.std.specs.Prelude.{◌≡◌, ℕ, ◌-◌, ◌<◌, if◌then◌else◌, Some, List, [], ◌∷◌, ◌++◌, length, take, drop, slice_get, map}
 use Rattle.sel_grammar.specs.declared.emission.Emitted.TheVariants.{Temporary}
 use Rattle.std.specs.Fmt.{decimal}
+use Rattle.sel_base.specs.Ascii.{letter_t}
 use Rattle.sel_grammar.specs.declared.grammar.Grammar.{Grammar}
 use Rattle.sel_grammar.specs.Expansions.{Text, Emissions, value_or_none, text_bytes, filled, is_instruction, has_result, attribute_bytes}
 use Rattle.sel_forest.specs.declared.forest.Node.{Node}
@@ -14,8 +15,8 @@ use Rattle.sel_expand.specs.Sizes.{to_end, exact_length, sizes_of}
 -- the step's entry is added, and its kids' entries give way to it
 pub record IsEntered (g : Grammar) (nodes : List Node) (step : Step) (next : ℕ) (old new : List Booked) (stack left : List ℕ) (s : Sizes) : Type 0 where
   pub sizes_are : s ≡ sizes_of (is_instruction (parts_at g step.rule)) (has_result (parts_at g step.rule))
-      (to_end (exact_length old (drop (length stack - step.kids) stack) (length (attribute_bytes (attribute_at nodes step.at))) (length (116 ∷ decimal next)) (parts_at g step.rule)))
-      (length (116 ∷ decimal next)) next
+      (to_end (exact_length old (drop (length stack - step.kids) stack) (length (attribute_bytes (attribute_at nodes step.at))) (length (letter_t ∷ decimal next)) (parts_at g step.rule)))
+      (length (letter_t ∷ decimal next)) next
   pub entries_are : new ≡ old ++ record { entry = record { rule = step.rule; at = step.at; next = next; length = s.value }; kids = drop (length stack - step.kids) stack } ∷ []
   pub left_are : left ≡ take (length stack - step.kids) stack ++ length old ∷ []
 

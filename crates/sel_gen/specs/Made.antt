@@ -2,6 +2,7 @@
 use Rattle.std.specs.Prelude.{◌≡◌, ℕ, zero, suc, ◌+◌, ◌-◌, ◌/◌, ◌%◌, Bool, false, ◌&&◌, ◌==◌, nat_le, if◌then◌else◌, pos, ◌+ℤ◌, ◌-ℤ◌, nat_abs, Option, Some, None, List, [], ◌∷◌, length, map, filter, drop, slice_get}
 use Rattle.std.specs.Option.{unwrap_or}
 use Rattle.std.specs.Fmt.{decimal}
+use Rattle.sel_base.specs.Ascii.{letter_s}
 use Rattle.rand_core.specs.Pcg32Seed.{pcg32_seed}
 use Rattle.rand_pcg.specs.Lcg.{Lcg}
 use Rattle.rand_pcg.specs.Pcg.{pcg64, pcg64_of_seed}
@@ -66,7 +67,7 @@ shared (size ∷ others) spare words =
 -- The attribute that a word gives: a number of the range, where there is one; else one time in four a symbol `s0` to `s99`, and a number from -4,096 to 4,095.
 abbrev pub attribute_by : Option Range → ℕ → Attribute
 attribute_by (Some range) w = Number (range.lo +ℤ pos (w % (nat_abs (range.hi -ℤ range.lo) + 1)))
-attribute_by None w = if w % 4 == 0 then Symbol (115 ∷ decimal (w / 4 % 100)) else Number (pos (w / 4 % 8192) -ℤ pos 4096)
+attribute_by None w = if w % 4 == 0 then Symbol (letter_s ∷ decimal (w / 4 % 100)) else Number (pos (w / 4 % 8192) -ℤ pos 4096)
 
 -- what is made: of a nonterminal, its budget, the words before, the tree, the words behind it
 abbrev pub Making : Type 1

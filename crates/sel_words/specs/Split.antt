@@ -1,6 +1,7 @@
 -- The words, taken apart into options with their values and plain words.
 use Rattle.std.specs.Prelude.{ℕ, ◌==◌, Bool, false, ◌&&◌, List, [], ◌∷◌, drop, filter, map, Option, Some, None, option_map, bytes_eq, codes, if◌then◌else◌}
 use Rattle.std.specs.List.{list_any, before_first, after_first}
+use Rattle.sel_base.specs.Ascii.{hyphen, equals_sign}
 
 -- an option's name, and the value that is given with it
 pub record Given : Type 0 where
@@ -14,16 +15,16 @@ pub record Parts : Type 0 where
 
 -- a word of at least two bytes that begins with `-`
 abbrev pub is_hyphened : List ℕ → Bool
-is_hyphened (first ∷ second ∷ rest) = first == 45
+is_hyphened (first ∷ second ∷ rest) = first == hyphen
 is_hyphened _ = false
 
 -- a word that begins with `--` and is longer
 abbrev pub is_option : List ℕ → Bool
-is_option (first ∷ second ∷ third ∷ rest) = (first == 45) && (second == 45)
+is_option (first ∷ second ∷ third ∷ rest) = (first == hyphen) && (second == hyphen)
 is_option _ = false
 
 abbrev pub is_equals : ℕ → Bool
-is_equals b = b == 61
+is_equals b = b == equals_sign
 
 -- NAME of the word `--NAME` or `--NAME=VALUE`
 abbrev pub name_in : List ℕ → List ℕ

@@ -1,5 +1,6 @@
 -- What the words ask for.
 use Rattle.std.specs.Prelude.{ℕ, ◌*◌, ◌==◌, nat_le, List, [], ◌∷◌, Option, Some, None, option_and_then, option_map, bytes_eq, codes, if◌then◌else◌}
+use Rattle.sel_base.specs.Ascii.{at_sign}
 use Rattle.sel_targets.specs.TargetText.{target_text}
 use Rattle.sel_words.specs.declared.settings.Settings.{Settings}
 use Rattle.sel_words.specs.declared.words.Mode.{Mode}
@@ -82,7 +83,7 @@ job_of settings word (forest ∷ more ∷ words) = None
 -- any other word is a name for the shelf
 abbrev pub source_of : List ℕ → Option GrammarSource
 source_of [] = Some Held
-source_of (first ∷ rest) = if first == 64 then option_map (λ text. Shipped text) (target_text rest) else Some Held
+source_of (first ∷ rest) = if first == at_sign then option_map (λ text. Shipped text) (target_text rest) else Some Held
 
 -- MODE, GRAMMAR and, for most, FOREST, with these settings
 abbrev pub task_of : Settings → List (List ℕ) → Option Task
