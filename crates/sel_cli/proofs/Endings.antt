@@ -1,16 +1,14 @@
 -- Why a text was not read, or not accepted, and so the call stopped.
-use Rattle.std.proofs.Common.{◌≡◌, ◌≢◌, ℕ, ◌+◌, ◌<◌, ◌≤◌, List, length, replicate, Option, Some, None, Result, Ok, Err, IfErr, IfSome, IsErrOf, refl, sym, ap, subst, ◌∙◌, inl, inr, arith}
+use Rattle.std.proofs.Common.{◌≡◌, ℕ, ◌+◌, ◌<◌, List, length, replicate, Option, Some, None, Result, Ok, Err, IfErr, IfSome, refl, sym, ap, subst, inl, inr, arith}
 use Rattle.std.proofs.lemmas.List.{length-replicate}
-use Rattle.sel_base.specs.declared.fault.ShelfFault.{ShelfFault}
-use Rattle.sel_base.specs.declared.fault.ShelfFault.TheVariants as shelf
-use Rattle.sel_base.specs.Reads.{ShelfTold, TellsRead}
+use Rattle.sel_base.specs.Reads.{ShelfTold}
 use Rattle.sel_grammar.specs.declared.grammar.Grammar.{Grammar}
 use Rattle.sel_grammar.specs.declared.refusal.GrammarRefusal.{GrammarRefusal}
 use Rattle.sel_grammar.specs.declared.refusal.GrammarRefusal.TheVariants as refusal
 use Rattle.sel_grammar_text.specs.GrammarText.{SpellsGrammar}
 use Rattle.sel_normal.specs.NormalFaults.{NormalRefusedFor}
-use Rattle.sel_words.specs.Words.{GrammarSource, Held, Shipped, held_under, Task, forest_name}
-use Rattle.sel_cli.specs.Texts.{Request, MayBe, IsGrammarText, AcceptsGrammar, grammar_limit, forest_limit, request_of}
+use Rattle.sel_words.specs.Words.{GrammarSource, Held, Shipped, held_under, Task, grammar_name, forest_name}
+use Rattle.sel_cli.specs.Texts.{MayBe, IsGrammarText, AcceptsGrammar, grammar_limit, forest_limit, request_of}
 use Rattle.sel_cli.specs.Ends.{StopsFor}
 use Rattle.sel_cli.specs.Parts.{FetchesFor, ReadsText, JudgedFor}
 use Rattle.sel_cli.specs.declared.status.Status.{Status}
@@ -23,45 +21,6 @@ longer_text None limit h =
     let long : length zeros ≡ limit + 1 = length-replicate (limit + 1) 0 in
     (zeros, tt, omega (arith, long))
 longer_text (Some held) limit h = (held, refl, h)
-
--- ---- what a read tells
-
-no_fault : {T : Type 0} (x : T) → IsErrOf (Ok x) shelf.Failed → ⊥
-no_fault x f = cc
-
-not_failed : {T : Type 0} (fault : ShelfFault) → fault ≢ shelf.Failed → IsErrOf {T} (Err fault) shelf.Failed → ⊥
-not_failed fault differs f = absurd (differs (cc))
-
-module _ {T : Type 0} (name : List ℕ) (before now : ShelfTold) where
-  pub read_ok : {U : Type 0} (x : T) (y : U) → TellsRead name (Ok x) before now → (wanted : Option Task) → ReadsText wanted (Some name) (Ok y) before now
-  read_ok x y t wanted = record {
-    unchanged = t.unchanged;
-    later = (t.counted).later;
-    quiet = λ no. (t.counted).quiet (no_fault x);
-    read = t.noted;
-    unread = tt;
-  }
-
-  pub read_failed : {U : Type 0} → TellsRead {T} name (Err shelf.Failed) before now → (wanted : Option Task) → ReadsText {U} wanted (Some name) (Err ReadFault) before now
-  read_failed t wanted = record { unchanged = t.unchanged; later = (t.counted).later; quiet = λ no. absurd (no refl); read = tt; unread = tt }
-
-  pub read_too_big : {U : Type 0} → TellsRead {T} name (Err shelf.TooBig) before now → (wanted : Option Task) → ReadsText {U} wanted (Some name) (Err TooBig) before now
-  read_too_big t wanted = record {
-    unchanged = t.unchanged;
-    later = (t.counted).later;
-    quiet = λ no. (t.counted).quiet (not_failed shelf.TooBig (λ e. cc));
-    read = tt;
-    unread = tt;
-  }
-
-  pub read_no_memory : {U : Type 0} → TellsRead {T} name (Err shelf.NoMemory) before now → (wanted : Option Task) → ReadsText {U} wanted (Some name) (Err NoMemory) before now
-  read_no_memory t wanted = record {
-    unchanged = t.unchanged;
-    later = (t.counted).later;
-    quiet = λ no. (t.counted).quiet (not_failed shelf.NoMemory (λ e. cc));
-    read = tt;
-    unread = tt;
-  }
 
 -- ---- the grammar's text
 
@@ -94,6 +53,9 @@ module _ (task : Task) (before now : ShelfTold) where
   pub held_stops : {A : Type 0} (r : Result A Status) → task.source ≡ Held → IfErr r (FetchesFor task.grammar grammar_limit before now) → IfErr r (StopsFor (request_of (Some task) before) before now task.grammar)
   held_stops (Ok a) h f = tt
   held_stops (Err status) h f = fetch_grammar_stops status h f
+
+  pub held_reads : {A : Type 0} (r : Result A Status) → task.source ≡ Held → ReadsText (Some task) (Some task.grammar) r before now → ReadsText (Some task) (grammar_name task) r before now
+  held_reads r h reads = subst (λ source. ReadsText (Some task) (held_under source task.grammar) r before now) (sym h) reads
 
   -- the forest's text was not read
   pub fetch_forest_stops : (grammar : Grammar) (name : List ℕ) (status : Status) → AcceptsGrammar MayBe (request_of (Some task) before) task grammar → forest_name task.job ≡ Some name

@@ -1,15 +1,15 @@
 -- From the parts of a call to the whole: how its words were served.
-use Rattle.std.proofs.Common.{◌≡◌, ◌≢◌, ℕ, ◌≤◌, Bool, List, [], length, Option, Some, None, option_and_then, Result, Ok, Err, IfErr, IfSome, IsErrOf, refl, sym, ap, subst, ◌∙◌, inl, inr, arith}
+use Rattle.std.proofs.Common.{◌≡◌, ◌≢◌, ℕ, ◌≤◌, Bool, List, [], length, Option, Some, None, Ok, Err, IfSome, IsErrOf, refl, sym, ap, subst, ◌∙◌, inl, inr, arith}
 use Rattle.sel_base.specs.Causes.{Rose}
 use Rattle.sel_base.specs.Puts.{SinkTold}
 use Rattle.sel_base.specs.Reads.{LastRead, ShelfTold}
 use Rattle.sel_grammar.specs.declared.grammar.Grammar.{Grammar}
 use Rattle.sel_forest.specs.declared.forest.Forest.{Forest}
-use Rattle.sel_words.specs.Words.{Job, Task, grammar_name, forest_name, last_name, later_name}
+use Rattle.sel_words.specs.declared.words.Mode.{Mode}
+use Rattle.sel_words.specs.Words.{Job, OverForest, Task, grammar_name, forest_name, last_name, later_name}
 use Rattle.sel_answers.specs.Output.{IsOutput}
-use Rattle.sel_cli.specs.Texts.{Request, MayBe, AcceptsGrammar, AcceptsForest, Accepts, forest_limit, request_of}
+use Rattle.sel_cli.specs.Texts.{Request, MayBe, AcceptsGrammar, Accepts, forest_limit, request_of}
 use Rattle.sel_cli.specs.Ends.{StopsFor, WritesFor, EndsFor, WasRead, ReadsFor}
-use Rattle.sel_cli.specs.Runs.{KeepsShelf, KeepsOutput}
 use Rattle.sel_cli.specs.Parts.{ReadsText, StopsOver, WritesSome, Writes, WritesOver, Serves}
 use Rattle.sel_cli.specs.declared.status.Status.{Status}
 use Rattle.sel_cli.specs.declared.status.Status.TheVariants.{Done, Usage, ReadFault, TooBig, BadGrammar, BadForest, WriteFault, NoMemory, Uncovered}
@@ -20,12 +20,12 @@ use Rattle.sel_cli.proofs.Writing.{nothing_taken, output_kept}
 not_ok : {T : Type 0} (x : T) (status : Status) → IsErrOf (Ok x) status → ⊥
 not_ok x status e = cc
 
-not_other : {T : Type 0} (status other : Status) → status ≢ other → IsErrOf {T} (Err status) other → ⊥
+not_other : {T : Type 0} (status other : Status) → status ≢ other → IsErrOf {T = T} (Err status) other → ⊥
 not_other status other differs e = absurd (differs (cc))
 
 -- a text was not read, or not accepted
 pub stop_serves : {T : Type 0} (wanted : Option Task) (read : Option (List ℕ)) (name : List ℕ) (shelf shelf_now : ShelfTold) (out : SinkTold) (status : Status)
-    → StopsFor (request_of wanted shelf) shelf shelf_now name status → ReadsText {T} wanted read (Err status) shelf shelf_now → Serves wanted shelf shelf_now out out name status
+    → StopsFor (request_of wanted shelf) shelf shelf_now name status → ReadsText {T = T} wanted read (Err status) shelf shelf_now → Serves wanted shelf shelf_now out out name status
 stop_serves wanted read name shelf shelf_now out status stops r = record {
   bytes = [];
   why = inl (refl, stops);
@@ -91,12 +91,14 @@ done_serves x task grammar forest read name shelf shelf_now out out_now status a
   writes = w.keeps;
 }
 
--- a task over a grammar alone
-pub alone_serves : {T : Type 0} (x : T) (task : Task) (grammar : Grammar) (name : List ℕ) (shelf shelf_now : ShelfTold) (out out_now : SinkTold) (status : Status)
-    → forest_name task.job ≡ None → AcceptsGrammar MayBe (request_of (Some task) shelf) task grammar → ReadsText (Some task) (grammar_name task) (Ok x) shelf shelf_now
-    → Writes (IsOutput task.job grammar None) out out_now status → Serves (Some task) shelf shelf_now out out_now name status
-alone_serves x task grammar name shelf shelf_now out out_now status none a r w =
-    done_serves x task grammar None (grammar_name task) name shelf shelf_now out out_now status (a, none) (ap (λ n. later_name (grammar_name task) n) none) r w
+-- a task whose job is this, over a grammar alone
+pub job_serves : {T : Type 0} (x : T) (task : Task) (job : Job) (grammar : Grammar) (name : List ℕ) (shelf shelf_now : ShelfTold) (out out_now : SinkTold) (status : Status)
+    → task.job ≡ job → forest_name job ≡ None → AcceptsGrammar MayBe (request_of (Some task) shelf) task grammar → ReadsText (Some task) (grammar_name task) (Ok x) shelf shelf_now
+    → Writes (IsOutput job grammar None) out out_now status → Serves (Some task) shelf shelf_now out out_now name status
+job_serves x task job grammar name shelf shelf_now out out_now status is none a r w =
+    let alone : forest_name task.job ≡ None = ap forest_name is ∙ none in
+    done_serves x task grammar None (grammar_name task) name shelf shelf_now out out_now status (a, alone) (ap (λ n. later_name (grammar_name task) n) alone) r
+    (subst (λ j. Writes (IsOutput j grammar None) out out_now status) (sym is) w)
 
 -- ---- a task over a forest
 
@@ -136,7 +138,7 @@ pub over_serves : {T : Type 0} (x : T) (task : Task) (grammar : Grammar) (name t
     → AcceptsGrammar MayBe (request_of (Some task) shelf) task grammar → forest_name task.job ≡ Some name → MayBe (shelf.held name) text → length text ≤ forest_limit
     → ReadsText (Some task) (Some name) (Ok x) shelf shelf_now → WritesOver (λ forest. IsOutput task.job grammar (Some forest)) grammar text out out_now status
     → Serves (Some task) shelf shelf_now out out_now name status
-over_serves x task grammar name text shelf shelf_now out out_now status a n is within r = go
+over_serves {T} x task grammar name text shelf shelf_now out out_now status a n is within r = go
   where
     last : last_name task ≡ Some name
     last = ap (λ m. later_name (grammar_name task) m) n
@@ -144,17 +146,23 @@ over_serves x task grammar name text shelf shelf_now out out_now status a n is w
     go : WritesOver (λ forest. IsOutput task.job grammar (Some forest)) grammar text out out_now status → Serves (Some task) shelf shelf_now out out_now name status
     go (inl (stops, same)) =
         subst (λ sink. Serves (Some task) shelf shelf_now out sink name status) (sym same)
-        (stop_serves {T} (Some task) (Some name) name shelf shelf_now out status (refused_stops task grammar name text shelf shelf_now status a n is within stops)
-          (record {
-            unchanged = r.unchanged;
-            later = r.later;
-            quiet = λ no. r.quiet (not_ok x ReadFault);
-            read = tt;
-            unread = refused_reads task grammar text shelf_now.last status stops (subst (λ m. IfSome m (WasRead shelf_now.last)) (sym last) r.read);
-          }))
+        (stop_serves {T = T} (Some task) (Some name) name shelf shelf_now out status (refused_stops task grammar name text shelf shelf_now status a n is within stops)
+        (record {
+          unchanged = r.unchanged;
+          later = r.later;
+          quiet = λ no. r.quiet (not_ok x ReadFault);
+          read = tt;
+          unread = refused_reads task grammar text shelf_now.last status stops (subst (λ m. IfSome m (WasRead shelf_now.last)) (sym last) r.read);
+        }))
     go (inr (forest, spelled, w)) =
         done_serves x task grammar (Some forest) (Some name) name shelf shelf_now out out_now status
         (record { name = name; text = text; has = record { accepts_grammar = a; is_named = n; is_text = is }; within = within; spelled = spelled }) last r w
+
+-- a job over a forest does what its mode says
+pub by_mode : (grammar : Grammar) (given mode : Mode) (text : List ℕ) (out out_now : SinkTold) (status : Status) (name : List ℕ) → given ≡ mode
+    → WritesOver (λ forest. IsOutput (OverForest mode name) grammar (Some forest)) grammar text out out_now status
+    → WritesOver (λ forest. IsOutput (OverForest given name) grammar (Some forest)) grammar text out out_now status
+by_mode grammar given mode text out out_now status name is w = subst (λ m. WritesOver (λ forest. IsOutput (OverForest m name) grammar (Some forest)) grammar text out out_now status) (sym is) w
 
 -- ---- one part after another
 

@@ -1,10 +1,10 @@
 -- How an output, and the status's line, was written.
-use Rattle.std.proofs.Common.{◌≡◌, ℕ, Bool, true, false, List, [], ◌++◌, take, drop, Option, Some, None, Result, Ok, Err, refl, sym, ap, subst, ◌∙◌, inl, inr, arith, append-nil, take-append-drop}
+use Rattle.std.proofs.Common.{◌≡◌, ℕ, Bool, true, false, List, [], take, drop, Option, Some, None, Result, Ok, Err, refl, sym, ap, subst, ◌∙◌, inl, inr, arith, append-nil, take-append-drop}
 use Rattle.std.specs.Io.KnownBytes.{append_known}
 use Rattle.sel_base.specs.declared.fault.SinkFault.TheVariants as fault
 use Rattle.sel_base.specs.declared.fault.SinkFault.TheVariants.{Failed}
 use Rattle.sel_base.specs.declared.sink.WriteStop.{WriteStop}
-use Rattle.sel_base.specs.Puts.{SinkTold, TellsWrite, written_of}
+use Rattle.sel_base.specs.Puts.{SinkTold, TellsWrite}
 use Rattle.sel_forest.specs.declared.forest.Forest.{Forest}
 use Rattle.sel_forest.specs.ForestText.{SpellsForest}
 use Rattle.sel_grammar.specs.declared.grammar.Grammar.{Grammar}
@@ -76,7 +76,7 @@ module _ (covered : Bool) (whole : List ℕ) (before now : SinkTold) where
   front_put : (stop : WriteStop) → IsFrontOfSome (IsThis covered whole) (take stop.written whole)
   front_put stop = (covered, whole, (refl, refl), take_front stop.written whole)
 
-  pub put_failed : {T : Type 0} (stop : WriteStop) → stop.cause ≡ Failed → TellsWrite {T} whole (Err stop) before now → Writes (IsThis covered whole) before now WriteFault
+  pub put_failed : {T : Type 0} (stop : WriteStop) → stop.cause ≡ Failed → TellsWrite {T = T} whole (Err stop) before now → Writes (IsThis covered whole) before now WriteFault
   put_failed stop is t = record {
     bytes = take stop.written whole;
     why = ((t.counted).cause is, front_put stop);
@@ -84,7 +84,7 @@ module _ (covered : Bool) (whole : List ℕ) (before now : SinkTold) where
     keeps = record { later = (t.counted).later; quiet = λ no. absurd (no refl) };
   }
 
-  pub put_without_memory : {T : Type 0} (stop : WriteStop) → stop.cause ≡ fault.NoMemory → TellsWrite {T} whole (Err stop) before now → Writes (IsThis covered whole) before now NoMemory
+  pub put_without_memory : {T : Type 0} (stop : WriteStop) → stop.cause ≡ fault.NoMemory → TellsWrite {T = T} whole (Err stop) before now → Writes (IsThis covered whole) before now NoMemory
   put_without_memory stop is t = record {
     bytes = take stop.written whole;
     why = inr (front_put stop);

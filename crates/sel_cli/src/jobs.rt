@@ -46,12 +46,17 @@ pub fn serve<'a, S: Shelf, K: Sink, G: Gate>(
         Ok(accepted) => accepted,
         Err(status) => return Ended { status, name },
     };
-    let status = match command.job {
-        Job::PrintGrammar => print_grammar(alloc, &accepted.grammar, out),
-        Job::Make => make(alloc, &accepted, command.settings, out, gate),
+    match command.job {
+        Job::PrintGrammar => Ended {
+            status: print_grammar(alloc, &accepted.grammar, out),
+            name,
+        },
+        Job::Make => Ended {
+            status: make(alloc, &accepted, command.settings, out, gate),
+            name,
+        },
         Job::OverForest(mode, name) => {
-            return serve_forest(alloc, command, mode, name, &accepted, shelf, out, gate);
+            serve_forest(alloc, command, mode, name, &accepted, shelf, out, gate)
         }
-    };
-    Ended { status, name }
+    }
 }

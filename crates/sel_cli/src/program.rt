@@ -32,12 +32,11 @@ pub fn run_program<S: Shelf, K: Sink, E: Sink, G: Gate, Rt: Threads>(
     ensures line { OnErr words (TellsLine (codes "") no_memory (E.told err.old) (E.told err.new)) }
     ensures still { OnErr words ((shelf.new ≡ shelf.old) × (out.new ≡ out.old)) }
 {
-    let status = match &words {
-        Ok(words) => run(rt, alloc, words, shelf, out, err, gate).0,
+    match words {
+        Ok(words) => run(rt, alloc, &words, shelf, out, err, gate).0.code(),
         Err(NoMemory) => {
             tell(alloc, "", Status::NoMemory, err);
-            Status::NoMemory
+            Status::NoMemory.code()
         }
-    };
-    status.code()
+    }
 }

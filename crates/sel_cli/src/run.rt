@@ -26,12 +26,17 @@ fn obey<'a, S: Shelf, K: Sink, G: Gate>(
     ensures served { Serves (command (map string_bytes words.now)) (S.told shelf.old) (S.told shelf.new) (K.told out.old) (K.told out.new) result.name.now result.status }
     ensures untouched { NeedsNoText (command (map string_bytes words.now)) → shelf.new ≡ shelf.old }
 {
-    let status = match read_words(alloc, words) {
-        Ok(Some(command)) => return serve(alloc, command, shelf, out, gate),
-        Ok(None) => Status::Usage,
-        Err(NoMemory) => Status::NoMemory,
-    };
-    Ended { status, name: "" }
+    match read_words(alloc, words) {
+        Ok(Some(command)) => serve(alloc, command, shelf, out, gate),
+        Ok(None) => Ended {
+            status: Status::Usage,
+            name: "",
+        },
+        Err(NoMemory) => Ended {
+            status: Status::NoMemory,
+            name: "",
+        },
+    }
 }
 
 /// Does what the words ask for (`cover`, `select`, `print` or `summary` with GRAMMAR and FOREST, `print GRAMMAR`

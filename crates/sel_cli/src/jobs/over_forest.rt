@@ -101,9 +101,11 @@ pub fn serve_forest<'a, S: Shelf, K: Sink, G: Gate>(
     requires job { (task_for command).job ≡ OverForest mode name.now }
     ensures served { Serves (Some (task_for command.entry)) (S.told shelf.old) (S.told shelf.new) (K.told out.old) (K.told out.new) result.name.now result.status }
 {
-    let status = match fetch(alloc, shelf, name, FOREST_LIMIT) {
-        Ok(text) => serve_text(alloc, mode, accepted, command.settings, text, out, gate),
-        Err(status) => status,
-    };
-    Ended { status, name }
+    match fetch(alloc, shelf, name, FOREST_LIMIT) {
+        Ok(text) => Ended {
+            status: serve_text(alloc, mode, accepted, command.settings, text, out, gate),
+            name,
+        },
+        Err(status) => Ended { status, name },
+    }
 }

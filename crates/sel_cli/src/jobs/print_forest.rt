@@ -14,7 +14,12 @@ use sel_forest::{ForestRefusal, reprint_forest};
 use std::alloc::Global;
 
 /// Prints the forest that the text spells.
-pub fn print_forest<K: Sink>(alloc: Global, accepted: &Accepted, text: Vec<u8>, out: &mut K) -> Status
+pub fn print_forest<K: Sink>(
+    alloc: Global,
+    accepted: &Accepted,
+    text: Vec<u8>,
+    out: &mut K,
+) -> Status
     requires form { IsAcceptedForm accepted.now.grammar accepted.now.normal }
     requires short { length text.items ≤ forest_limit }
     ensures done { WritesOver (IsForestInPrint accepted.now.grammar) accepted.now.grammar text.items (K.told out.old) (K.told out.new) result }

@@ -1,6 +1,6 @@
 use Rattle.std.proofs.Common.{rules, ◌≡◌}
 use Rattle.sel_cli.specs.Lines.{status_line}
-use Rattle.sel_cli.proofs.Writing.{line_told, no_line_told}
+use Rattle.sel_cli.proofs.Writing.{line_told}
 use Rattle.sel_cli.proofs.lines.tell.Goals as goal
 
 pub returns-then-is_ok-clause-line : goal.returns-then-is_ok-clause-line

@@ -4,9 +4,6 @@ use Rattle.sel_cli.specs.Texts.{IsRefusedGrammar}
 use Rattle.sel_cli.specs.Parts.{JudgedFor}
 use Rattle.sel_cli.proofs.texts.accept_grammar.Goals as goal
 
-pub returns-in-Err-clause-unread : goal.returns-in-Err-clause-unread
-returns-in-Err-clause-unread g c = c.in-Err.ensures.unread (task_for c.args.command)
-
 pub returns-in-Err-Fault-clause-refused : goal.returns-in-Err-Fault-clause-refused
 returns-in-Err-Fault-clause-refused g c =
     let same : c.deref.result.now ≡ c.in-Ok.text.items = search rules in

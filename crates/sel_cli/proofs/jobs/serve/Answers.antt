@@ -1,0 +1,25 @@
+use Rattle.std.proofs.Common.{Some, refl, ap}
+use Rattle.sel_words.specs.Names.{task_for, job_for}
+use Rattle.sel_words.specs.Words.{grammar_name}
+use Rattle.sel_cli.proofs.Serving.{stop_serves, job_serves, then_serves}
+use Rattle.sel_cli.proofs.jobs.serve.Goals as goal
+
+pub returns-in-Err-clause-served : goal.returns-in-Err-clause-served
+returns-in-Err-clause-served g c =
+    let task = task_for c.args.command in
+    stop_serves (Some task) (grammar_name task) c.args.command.grammar.now _ _ _ c.in-Err.status c.in-Err.ensures.refused c.in-Err.ensures.reads
+
+pub returns-in-PrintGrammar-clause-served : goal.returns-in-PrintGrammar-clause-served
+returns-in-PrintGrammar-clause-served g c =
+    let task = task_for c.args.command in
+    job_serves c.in-Ok.accepted task _ c.in-Ok.accepted.grammar c.args.command.grammar.now _ _ _ _ c.print_grammar.result (ap (job_for c.args.command.settings) c.in-PrintGrammar.is) refl c.in-Ok.ensures.accepted c.in-Ok.ensures.reads c.print_grammar.ensures.done
+
+pub returns-in-Make-clause-served : goal.returns-in-Make-clause-served
+returns-in-Make-clause-served g c =
+    let task = task_for c.args.command in
+    job_serves c.in-Ok.accepted task _ c.in-Ok.accepted.grammar c.args.command.grammar.now _ _ _ _ c.make.result (ap (job_for c.args.command.settings) c.in-Make.is) refl c.in-Ok.ensures.accepted c.in-Ok.ensures.reads c.make.ensures.done
+
+pub returns-clause-served : goal.returns-clause-served
+returns-clause-served g c =
+    let task = task_for c.args.command in
+    then_serves c.in-Ok.accepted (Some task) (grammar_name task) _ _ _ _ _ _ c.serve_forest.result.status c.in-Ok.ensures.reads c.serve_forest.ensures.served
