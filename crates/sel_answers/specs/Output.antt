@@ -10,7 +10,7 @@ use Rattle.sel_forest.specs.declared.forest.Forest.{Forest}
 use Rattle.sel_forest.specs.declared.forest.Tree.{Tree}
 use Rattle.sel_forest.specs.Postorder.{IsPostorderOf}
 use Rattle.sel_forest.specs.Printed.{IsPrinted}
-use Rattle.sel_grammar_text.specs.PrintedGrammar.{printed}
+use Rattle.sel_grammar_print.specs.PrintedGrammar.{printed}
 use Rattle.sel_work.specs.declared.answer.Answer.{Answer}
 use Rattle.sel_work.specs.declared.answer.Answer.TheVariants.{NoCover, Text, TooLong}
 use Rattle.sel_work.specs.declared.answer.Answer.TheVariants as answers

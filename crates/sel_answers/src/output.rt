@@ -5,7 +5,7 @@ ghost use Rattle.sel_answers.specs.Output.{IsOutput};
 
 use sel_base::NoMemory;
 use sel_grammar::Grammar;
-use sel_grammar_text::print_grammar;
+use sel_grammar_print::print_grammar;
 use std::alloc::Global;
 
 /// The bytes that are written, and whether every tree is covered, and its text not too long.

@@ -28,11 +28,11 @@ use Rattle.sel_grammar_text.proofs.WholeItems.{whole_known}
 use Rattle.sel_grammar_text.proofs.KnownPatterns.{pattern_fits}
 use Rattle.sel_grammar_text.proofs.Lawfulness.{at_place}
 use Rattle.sel_grammar_text.proofs.PatternTexts.{same_bytes, bytes_same, numbered_plain, numbered_so, NodesFit, tree_builds}
-use Rattle.sel_grammar_text.proofs.PrintedTails.{TailGood}
-use Rattle.sel_grammar_text.proofs.SameChecks.{bytes_of, with_so, to_checked, InTemplate}
+use Rattle.sel_grammar_text.proofs.GoodRules.{TailGood}
+use Rattle.sel_grammar_text.proofs.CheckedItems.{bytes_of, with_so, to_checked, InTemplate}
 use Rattle.sel_grammar_text.proofs.SourceNames.{AllAmong, among-split, operators-append, or_none}
-use Rattle.sel_grammar_text.proofs.RulesAgain.{RuleGood, RulesGood}
-use Rattle.sel_grammar_text.proofs.RoundTrip.{Known, known}
+use Rattle.sel_grammar_text.proofs.GoodRules.{RuleGood, RulesGood}
+use Rattle.sel_grammar_text.proofs.SpelledItems.{Known, known}
 use Rattle.sel_grammar_text.proofs.SpelledNames.{each_at, same_place}
 use Rattle.sel_grammar_text.proofs.SpelledNonterminals.{all_with, among_at, nonterminals_new}
 use Rattle.sel_grammar_text.proofs.LawfulTemplates.{PartsLawful, missed, lawful_parts, no_parts}

@@ -1,20 +1,32 @@
--- The pattern that a tree of names builds is printed as the tree.
-use Rattle.std.proofs.Common.{◌≡◌, ℕ, suc, zero, ◌+◌, ◌≤◌, ◌<◌, List, [], ◌∷◌, ◌++◌, Bool, true, false, length, refl, ap, sym, ◌∙◌, arith, cond, ◌||◌, ◌⊎◌, append_assoc, append-nil, length-append, inl, inr, map}
+-- A tree of names builds a pattern.
+use denote.Hole.Carrier.{hidden}
+use Rattle.std.proofs.Common.{◌≡◌, ℕ, List, ◌++◌, refl, ap, sym, ◌∙◌, append_assoc, suc, zero, ◌+◌, ◌≤◌, ◌<◌, [], ◌∷◌, Bool, true, false, length, arith, cond, ◌||◌, ◌⊎◌, append-nil, length-append, inl, inr, map}
 use Rattle.std.specs.Prelude.{codes, bytes_eq, not}
 use Rattle.std.proofs.lemmas.List.{map-append}
 use Rattle.std.proofs.lemmas.Slice.Eq.{bytes_eq-Decides}
 use Rattle.std.proofs.Math.Numerals.{one-add}
-use Rattle.sel_grammar.specs.declared.grammar.Pattern.{Pattern, Leaf, Nullary, Unary, Binary}
+use Rattle.sqlite_items.specs.declared.boxed.Boxed.{Boxed}
+use Rattle.sel_grammar.specs.declared.grammar.Pattern.{Pattern, Unary, Binary, Leaf, Nullary}
+use Rattle.sel_grammar.specs.declared.grammar.Pattern.TheBlock.{shape-the_row-Pattern-0, hidden-the_row-Pattern-0}
+use Rattle.sel_grammar_text.specs.Printing.{name_at, printed_pattern}
 use Rattle.sel_grammar_text.specs.declared.pattern.PatternName.{PatternName}
 use Rattle.sel_grammar_text.specs.declared.pattern.PatternName.TheVariants.{Nonterminal, Operator}
 use Rattle.sel_grammar_text.specs.Items.{Word}
 use Rattle.sel_grammar_text.specs.Names.{is_among, number_of}
 use Rattle.sel_grammar_text.specs.Form.{Patterns, no_patterns, pattern, below}
-use Rattle.sel_grammar_text.specs.Patterns.{built_to, built, numbered, pattern_of}
-use Rattle.sel_grammar_text.specs.PrintedGrammar.{name_at, printed_pattern}
-use Rattle.sel_grammar_text.proofs.PrintedTokens.{patterns_text}
+use Rattle.sel_grammar_text.specs.Patterns.{built_to, numbered}
+use Rattle.sel_grammar_text.proofs.NamedPatterns.{patterns_text}
 use Rattle.sel_grammar_text.proofs.FormItems.{plain_names, kid_count, preorder}
-use Rattle.sel_grammar_text.proofs.PrintedSteps.{printed_unary, printed_binary}
+
+-- patterns with kids, whose kids stand behind boxes
+pub printed_unary : (ops nts : List (List ℕ)) (op : ℕ) (kid : Boxed Pattern) → printed_pattern ops nts (Unary op kid) ≡ name_at ops op ++ (codes "(" ++ (printed_pattern ops nts kid ++ codes ")"))
+unfolding shape-the_row-Pattern-0 hidden-the_row-Pattern-0 hidden
+printed_unary ops nts op kid = refl
+
+pub printed_binary : (ops nts : List (List ℕ)) (op : ℕ) (left right : Boxed Pattern)
+    → printed_pattern ops nts (Binary op left right) ≡ name_at ops op ++ (codes "(" ++ (printed_pattern ops nts left ++ (codes "," ++ (printed_pattern ops nts right ++ codes ")"))))
+unfolding shape-the_row-Pattern-0 hidden-the_row-Pattern-0 hidden
+printed_binary ops nts op left right = refl
 
 pub same_bytes : (x y : List ℕ) → bytes_eq x y ≡ true → x ≡ y
 same_bytes x y h = (bytes_eq-Decides x y).0 h
@@ -131,18 +143,3 @@ module _ (ops nts : List (List ℕ)) where
             ∙ joined n a (patterns_text below ka) b (patterns_text below kb);
       }
   tree_builds n (pattern a ka (pattern b kb (pattern c kc rest))) (suc m) more (inl f, g) h = let z : 1 + (1 + (1 + kid_count rest)) ≤ 2 = f.1 in absurd (omega (arith, z))
-
--- the pattern of a rule, by its names in preorder
-pub pattern_prints : (ops nts : List (List ℕ)) (names : List (Word × ℕ)) (n : List ℕ) (kids : Patterns) → plain_names names ≡ (n, kid_count kids) ∷ preorder kids → NodesFit ops nts ((n, kid_count kids) ∷ preorder kids)
-    → printed_pattern ops nts (pattern_of ops nts names) ≡ n ++ patterns_text below kids
-pattern_prints ops nts names n kids e f =
-    let all = map (numbered_plain ops nts) ((n, kid_count kids) ∷ preorder kids) in
-    let b = tree_builds ops nts n kids (length all) [] f (size (numbered_plain ops nts) (preorder kids)) in
-    let same : map (numbered ops nts) names ≡ all = numbered_so ops nts names ∙ ap (map (numbered_plain ops nts)) e in
-    ap (λ x. printed_pattern ops nts (built x).0) same
-    ∙ ap (λ x. printed_pattern ops nts (built_to (length all) x).0) (sym (append-nil all))
-    ∙ ap (λ x. printed_pattern ops nts x.0) b.is_built ∙ b.prints
-  where
-    size : {A B : Type 0} (f : A → B) (xs : List A) → length xs < suc (length (map f xs))
-    size f [] = omega arith
-    size f (x ∷ xs) = omega (arith, size f xs)

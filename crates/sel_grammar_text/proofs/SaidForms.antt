@@ -9,7 +9,7 @@ use Rattle.sel_grammar_text.specs.Laws.{RuleIsCut, RulesSayForms}
 use Rattle.sel_grammar_text.specs.SaidForms.{SaysAmount, SaysTail, SaysRule, SayRules}
 use Rattle.sel_grammar_text.proofs.FormItems.{head_of, tail_of, places, spots_so, places_past, amount_text, tail_text, tail_places, rule_pattern, rule_tail}
 use Rattle.sel_grammar_text.proofs.FormCuts.{fresh, rule_text, rule_texts, rule_cut, rule_places}
-use Rattle.sel_grammar_text.proofs.RoundTrip.{text_items, text_rules}
+use Rattle.sel_grammar_text.proofs.SpelledItems.{text_items, text_rules}
 
 amount_says : (ps : List ℕ) (c : AmountForm) → SaysAmount c (amount_text ps c)
 amount_says ps (OneNumber c) = (refl, refl)

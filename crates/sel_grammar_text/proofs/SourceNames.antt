@@ -9,7 +9,7 @@ use Rattle.sel_grammar.specs.Names.{is_letter, is_name_byte}
 use Rattle.sel_grammar_text.specs.Blanks.{skip, behind_pair}
 use Rattle.sel_grammar_text.specs.Tokens.{Token, Name, Unclosed, Start, Term, Percents, Code, OpenCode, Colon, Equals, Open, Close, Comma, Semi, Bad, token_of, inside_len, quoted, percent, mark, option_cases}
 use Rattle.sel_grammar_text.specs.Form.{Patterns, no_patterns, pattern, Side, below, beside, pattern_tokens, DeclarationForm, StartForm, TermForm, CodeForm, entry_tokens, declaration_tokens, tail_tokens, RuleForm, rule_tokens, IsSmall, IsDeclaration}
-use Rattle.sel_grammar_text.specs.Items.{Word, RuleText, Item, StartItem, EntryItem, CodeItem, PercentsItem, RuleItem}
+use Rattle.sel_grammar_text.specs.Items.{RuleText, Item, StartItem, EntryItem, CodeItem, PercentsItem, RuleItem}
 use Rattle.sel_grammar_text.specs.Names.{is_among, operators, rules, nonterminal_words, nonterminals}
 use Rattle.sel_grammar_text.specs.Spots.{first, behind, tokens}
 use Rattle.sel_grammar_text.specs.Checks.{place_if, differs}
@@ -17,11 +17,11 @@ use Rattle.sel_grammar_text.specs.Faults.{or_fault}
 use Rattle.sel_grammar_text.specs.ItemFaults.{check, check_all}
 use Rattle.sel_grammar_text.specs.declared.fault.Fault.{Fault}
 use Rattle.sel_grammar_text.proofs.Printed.{Each}
-use Rattle.sel_grammar_text.proofs.PrintedTokens.{IsName, HaveNames}
+use Rattle.sel_grammar_text.proofs.NamedPatterns.{IsName, HaveNames}
 use Rattle.sel_grammar_text.proofs.PatternTexts.{bytes_same, NodesFit}
 use Rattle.sel_grammar_text.proofs.FormItems.{tail_of, places_past}
 use Rattle.sel_grammar_text.proofs.FormCuts.{rule_items, entry_items, declarations_items}
-use Rattle.sel_grammar_text.proofs.SameChecks.{bytes_of, leaves_by, with_by, with_so, first_by, NoneWrong, to_checked, from_checked}
+use Rattle.sel_grammar_text.proofs.CheckedItems.{bytes_of, leaves_by, with_by, with_so, first_by, NoneWrong, to_checked}
 
 -- Names are names.
 
@@ -183,20 +183,6 @@ names_pass before (EntryItem name number ∷ items) h =
       (unplaced (is_among (operators before) name.bytes) name.at c.duplicate, unplaced (nat_le most_operators (length (operators before))) name.at c.many),
       subst (λ b. NamesPass b (operators items)) (operators-append before (EntryItem name number ∷ [])) (names_pass (before ++ (EntryItem name number ∷ [])) items o.1),
     )
-
-pub entry_passes : (before : List Item) (name number : Word) → is_among (operators before) name.bytes ≡ false → nat_le most_operators (length (operators before)) ≡ false → check before (EntryItem name number) ≡ None
-entry_passes before name number h k = from_checked before (EntryItem name number) (record {
-  duplicate = ap (λ b. place_if b name.at) h;
-  many = ap (λ b. place_if b name.at) k;
-  left = refl;
-  nonterminals = refl;
-  arities = refl;
-  template = refl;
-  kids = refl;
-  result = refl;
-  range = refl;
-  costs = refl;
-})
 
 -- Names stand among the nonterminals.
 

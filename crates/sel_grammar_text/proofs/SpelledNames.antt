@@ -14,10 +14,10 @@ use Rattle.sel_grammar_text.specs.GrammarText.{items_of}
 use Rattle.sel_grammar_text.specs.Meaning.{operators_of, grammar_of}
 use Rattle.sel_grammar_text.specs.SpelledLaws.{SpelledHasNames}
 use Rattle.sel_grammar_text.proofs.Printed.{Each}
-use Rattle.sel_grammar_text.proofs.PrintedTokens.{IsName}
+use Rattle.sel_grammar_text.proofs.NamedPatterns.{IsName}
 use Rattle.sel_grammar_text.proofs.SourceNames.{EntriesGood, NamesPass, among_more, among_last}
-use Rattle.sel_grammar_text.proofs.OperatorsAgain.{names_so}
-use Rattle.sel_grammar_text.proofs.RoundTrip.{Known, known}
+use Rattle.sel_grammar_text.proofs.ItemLists.{operator_names_of}
+use Rattle.sel_grammar_text.proofs.SpelledItems.{Known, known}
 
 -- what holds of each holds of the one at a place
 pub each_at : (P : List ℕ → Type 0) (bs : List (List ℕ)) (k : ℕ) (b : List ℕ) → AllByRecursion P bs → slice_get bs k ≡ Some b → P b
@@ -74,7 +74,7 @@ same_place before (x ∷ bs) (suc j) (suc k) b h d e = ap suc (same_place (befor
 
 pub name_there : (us : List (Word × ℕ)) (items : List Item) (k : ℕ) (operator : Operator) → slice_get (operators_of us items) k ≡ Some operator → slice_get (operators items) k ≡ Some operator.name
 name_there us items k operator h =
-    ap (λ bs. slice_get bs k) (sym (names_so us items)) ∙ slice_get-map (λ (o : Operator). o.name) (operators_of us items) k ∙ ap (option_map (λ (o : Operator). o.name)) h
+    ap (λ bs. slice_get bs k) (sym (operator_names_of us items)) ∙ slice_get-map (λ (o : Operator). o.name) (operators_of us items) k ∙ ap (option_map (λ (o : Operator). o.name)) h
 
 have_names : (source : List ℕ) (items : List Item) → Known items → HasNames (grammar_of source items)
 unfolding grammar_of

@@ -13,14 +13,14 @@ use Rattle.sel_grammar_text.specs.ItemFaults.{check, check_all}
 use Rattle.sel_grammar_text.specs.GrammarText.{items_of}
 use Rattle.sel_grammar_text.specs.Meaning.{grammar_of}
 use Rattle.sel_grammar_text.specs.SpelledLaws.{HasNonterminalNames, SpelledHasNonterminalNames}
-use Rattle.sel_grammar_text.proofs.PrintedTokens.{HaveNames}
+use Rattle.sel_grammar_text.proofs.NamedPatterns.{HaveNames}
 use Rattle.sel_grammar_text.proofs.PatternTexts.{bytes_same}
 use Rattle.sel_grammar_text.proofs.FormItems.{plain_names, kid_count, preorder}
 use Rattle.sel_grammar_text.proofs.FormCuts.{rule_items}
-use Rattle.sel_grammar_text.proofs.SameChecks.{bytes_of, leaves_by, leaves_so, with_by, with_so, to_checked}
+use Rattle.sel_grammar_text.proofs.CheckedItems.{bytes_of, leaves_by, leaves_so, with_by, with_so, to_checked}
 use Rattle.sel_grammar_text.proofs.SourceNames.{operators-append, unplaced, or_none}
-use Rattle.sel_grammar_text.proofs.RulesAgain.{RuleGood, RulesGood}
-use Rattle.sel_grammar_text.proofs.RoundTrip.{Known, known}
+use Rattle.sel_grammar_text.proofs.GoodRules.{RuleGood, RulesGood}
+use Rattle.sel_grammar_text.proofs.SpelledItems.{Known, known}
 use Rattle.sel_grammar_text.proofs.SpelledNames.{each_at, is_name, AreNew, same_place, name_there}
 
 all-append : {X : Type 0} (P : X → Type 0) (xs ys : List X) → AllByRecursion P xs → AllByRecursion P ys → AllByRecursion P (xs ++ ys)

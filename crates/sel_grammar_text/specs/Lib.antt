@@ -21,12 +21,10 @@ pub mod ItemFaults
 pub mod Patterns
 pub mod Places
 pub mod Meaning
-pub mod PrintedGrammar
 pub mod GrammarText
 pub mod Tables
 pub mod Extents
 pub mod Reading
 pub mod SaidForms
 pub mod Laws
-pub mod PrintedLaws
 pub mod SpelledLaws

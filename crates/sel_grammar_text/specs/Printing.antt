@@ -1,8 +1,9 @@
--- How templates are printed, and which lists of parts a template has.
-use Rattle.std.specs.Prelude.{◌≡◌, ℕ, ◌==◌, ◌≤◌, false, List, [], ◌∷◌, if◌then◌else◌, decimal}
+-- How templates and patterns are printed, and which lists of parts a template has.
+use Rattle.std.specs.Prelude.{◌≡◌, ℕ, ◌==◌, ◌≤◌, false, List, [], ◌∷◌, ◌++◌, if◌then◌else◌, codes, decimal, slice_index_or}
 use Rattle.std.specs.List.{flat_map}
 use Rattle.sel_grammar.specs.declared.grammar.Part.{Part}
 use Rattle.sel_grammar.specs.declared.grammar.Part.TheVariants.{Text, Kid, Attribute, Temp}
+use Rattle.sel_grammar.specs.declared.grammar.Pattern.{Pattern, Leaf, Nullary, Unary', Binary', end_of-Pattern, more_of-Pattern}
 use Rattle.sel_grammar_text.specs.TemplateText.{begins_with_text}
 
 -- a byte of text: line ends, tabs, quotes and backslashes by their escapes, a percent sign doubled
@@ -31,3 +32,15 @@ IsPart Temp more = Unit {0}
 abbrev pub AreParts : List Part → Type 0
 AreParts [] = Unit {0}
 AreParts (part ∷ parts) = IsPart part parts × AreParts parts
+
+-- the name of that number, and none beyond the last
+abbrev pub name_at : List (List ℕ) → ℕ → List ℕ
+name_at names n = slice_index_or names n []
+
+-- a pattern, without blanks
+abbrev pub printed_pattern : List (List ℕ) → List (List ℕ) → Pattern → List ℕ
+printed_pattern ops nts (Leaf n) = name_at nts n
+printed_pattern ops nts (Nullary op) = name_at ops op
+printed_pattern ops nts (Unary' op s (more_of-Pattern p end_of-Pattern)) = name_at ops op ++ (codes "(" ++ (printed_pattern ops nts p ++ codes ")"))
+printed_pattern ops nts (Binary' op s (more_of-Pattern p end_of-Pattern) s' (more_of-Pattern q end_of-Pattern)) =
+    name_at ops op ++ (codes "(" ++ (printed_pattern ops nts p ++ (codes "," ++ (printed_pattern ops nts q ++ codes ")"))))

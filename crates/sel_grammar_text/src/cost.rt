@@ -3,7 +3,7 @@
 ghost use Rattle.std.specs.Prelude.{◌≡◌, ◌+◌, ◌<◌, ◌≤◌, ◌^◌, [], ◌∷◌, length, MatchOption, IfSome, Some, None};
 ghost use Rattle.std.specs.Option.{option_map};
 ghost use Rattle.sel_grammar_text.specs.CostText as cost;
-ghost use Rattle.sel_grammar_text.specs.CostPieces.{view, tokens_of};
+ghost use Rattle.sel_grammar_text.specs.CostPieces.{view, tokens_of, upper_in};
 ghost use Rattle.sel_grammar_text.specs.Words.{view_word, view_amount, view_cost};
 
 use crate::tokens::{name_len, skip};
@@ -13,7 +13,7 @@ use sel_base::text::behind;
 use sel_grammar::names::is_letter;
 
 /// A token of a cost: a name, digits, digits behind their sign, or a single byte.
-#[derive(Clone, Copy, Debug)]
+#[derive(Clone, Copy)]
 enum CostPiece<'a> {
     Name(&'a [u8]),
     Digits(&'a [u8]),
@@ -22,14 +22,14 @@ enum CostPiece<'a> {
 }
 
 /// What is left of a cost, and where it begins.
-#[derive(Clone, Copy, Debug)]
+#[derive(Clone, Copy)]
 struct CostRest<'a> {
     at: usize,
     bytes: &'a [u8],
 }
 
 /// A token, where it begins, and what stands behind it.
-#[derive(Clone, Copy, Debug)]
+#[derive(Clone, Copy)]
 struct FoundCost<'a> {
     piece: CostPiece<'a>,
     at: usize,
@@ -216,6 +216,18 @@ fn read_addend(rest: CostRest<'_>) -> Option<Option<WrittenAmount<'_>>>
     Some(Some(amount))
 }
 
+/// The upper bound of a range behind a comma, whose lower one was read, and the addend behind the range.
+fn read_upper<'a>(at: usize, lo: TextWord<'a>, rest: CostRest<'a>) -> Option<WrittenCost<'a>>
+    requires { rest.at + length rest.bytes.now < 2 ^ 63 }
+    ensures { MatchOption result (upper_in at (view_word lo.entry) (tokens_of rest.entry) ≡ None) (λ c. upper_in at (view_word lo.entry) (tokens_of rest.entry) ≡ Some (view_cost c)) }
+{
+    let rest = behind_single(b',', rest)?;
+    let (hi, rest) = read_bound(rest)?;
+    let rest = behind_single(b')', rest)?;
+    let addend = read_addend(rest)?;
+    Some(WrittenCost::Ranged(at, lo, hi, addend))
+}
+
 /// A range behind the word `range`, which stands at a place.
 fn read_range(at: usize, rest: CostRest<'_>) -> Option<WrittenCost<'_>>
     requires { rest.at + length rest.bytes.now < 2 ^ 63 }
@@ -225,11 +237,7 @@ fn read_range(at: usize, rest: CostRest<'_>) -> Option<WrittenCost<'_>>
     let rest = behind_word(b"a", rest)?;
     let rest = behind_single(b',', rest)?;
     let (lo, rest) = read_bound(rest)?;
-    let rest = behind_single(b',', rest)?;
-    let (hi, rest) = read_bound(rest)?;
-    let rest = behind_single(b')', rest)?;
-    let addend = read_addend(rest)?;
-    Some(WrittenCost::Ranged(at, lo, hi, addend))
+    read_upper(at, lo, rest)
 }
 
 /// The cost that is left: none, an amount, or a range.

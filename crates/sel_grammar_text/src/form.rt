@@ -13,7 +13,7 @@ use sel_grammar::limits::GREATEST_EXTERNAL;
 
 /// What came last in a text. A flag `started` says whether a start symbol is declared, and a number
 /// how many parentheses are open.
-#[derive(Clone, Copy, Debug)]
+#[derive(Clone, Copy)]
 pub enum State {
     /// A declaration, or nothing yet. The second flag says whether entries may follow.
     Declaring(bool, bool),

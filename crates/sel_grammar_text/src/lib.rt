@@ -16,8 +16,6 @@ mod names;
 mod numbers;
 mod pattern;
 mod place;
-mod print;
-pub mod print_laws;
 mod read;
 mod rule_checks;
 mod scan;
@@ -30,5 +28,4 @@ mod tokens;
 mod values;
 mod words;
 
-pub use print::print_grammar;
 pub use read::read_grammar;

@@ -8,7 +8,7 @@ use crate::place::{Place, advance};
 use sel_base::NoMemory;
 
 /// A byte's number, from 0, and its line and column.
-#[derive(Clone, Copy, Debug)]
+#[derive(Clone, Copy)]
 pub struct Mark {
     pub at: usize,
     pub place: Place,

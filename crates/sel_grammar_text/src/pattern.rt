@@ -10,7 +10,7 @@ use std::alloc::Global;
 
 /// A name of a pattern: a nonterminal by its number, or an operator by its number with how many kids
 /// it has.
-#[derive(Clone, Copy, Debug, Drop)]
+#[derive(Clone, Copy, Drop)]
 pub enum PatternName {
     Nonterminal(u16),
     Operator(u8, u8),

@@ -4,7 +4,7 @@ ghost use Rattle.std.specs.Prelude.{◌≡◌, ℕ, ◌+◌, ◌<◌, ◌^◌, L
 ghost use Rattle.sel_grammar_text.specs.Places.{IsPlaceBehind};
 
 /// A line and a column, both from 1. The column counts bytes.
-#[derive(Clone, Copy, Debug)]
+#[derive(Clone, Copy)]
 pub struct Place {
     pub line: u32,
     pub column: u32,

@@ -25,7 +25,7 @@ use sel_grammar::{Grammar, GrammarFault, GrammarRefusal};
 use std::alloc::Global;
 
 /// Why reading stops.
-#[derive(Clone, Copy, Debug)]
+#[derive(Clone, Copy)]
 pub enum Stop {
     Fault(Fault),
     NoMemory,
@@ -40,7 +40,7 @@ impl From<NoMemory> for Stop {
 }
 
 /// Where an item begins: the state behind the items before it, what is left of the text, and its place.
-#[derive(Clone, Copy, Debug)]
+#[derive(Clone, Copy)]
 pub struct Position<'t> {
     pub state: State,
     pub left: &'t [u8],

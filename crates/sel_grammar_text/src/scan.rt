@@ -13,7 +13,7 @@ use crate::tokens::{Piece, next_token};
 
 /// The tokens of an item: how many they are, the state behind them, where the last one stands, and
 /// what is left behind them.
-#[derive(Clone, Copy, Debug)]
+#[derive(Clone, Copy)]
 pub struct Extent<'t> {
     pub count: usize,
     pub state: State,

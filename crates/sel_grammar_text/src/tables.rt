@@ -23,7 +23,7 @@ use std::alloc::Global;
 
 /// What the items so far have given. `lefts` has the left name of each rule, and `uses` where a name
 /// first stands behind `%start` or as a nonterminal in a pattern.
-#[derive(Debug, Drop)]
+#[derive(Drop)]
 pub struct Tables<'t> {
     pub start: Option<TextWord<'t>>,
     pub operators: Vec<Operator>,

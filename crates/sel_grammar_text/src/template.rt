@@ -11,7 +11,7 @@ use std::alloc::Global;
 
 /// A piece of a template: a byte, after the escapes, or a percent sign with the byte behind it, where
 /// there is one.
-#[derive(Clone, Copy, Debug)]
+#[derive(Clone, Copy)]
 pub enum TemplatePiece {
     Byte(u8),
     Sign(u8),
@@ -94,7 +94,7 @@ fn is_lawful(piece: TemplatePiece) -> bool
 }
 
 /// What a piece adds to a template: a byte of text, or a part that is no text.
-#[derive(Debug, Drop)]
+#[derive(Drop)]
 pub enum Addition {
     Byte(u8),
     Part(Part),

@@ -85,7 +85,7 @@ pub fn name_len(bytes: &[u8]) -> usize
 }
 
 /// A token, which borrows the text.
-#[derive(Clone, Copy, Debug)]
+#[derive(Clone, Copy)]
 pub enum Piece<'a> {
     Name(&'a [u8]),
     Integer(&'a [u8]),
@@ -194,7 +194,7 @@ pub fn width(piece: &Piece<'_>) -> usize
 }
 
 /// A token, the bytes from it on, and the bytes behind it.
-#[derive(Clone, Copy, Debug)]
+#[derive(Clone, Copy)]
 pub struct Found<'a> {
     pub piece: Piece<'a>,
     pub from: &'a [u8],

@@ -3,7 +3,7 @@ use crate::accepted::{grammar_of, text_of};
 use crate::stop::Stop;
 use sel_base::NoMemory;
 use sel_grammar::{Grammar, Part, Pattern, Rule, Template};
-use sel_grammar_text::print_grammar;
+use sel_grammar_print::print_grammar;
 use sel_sheet::Row;
 use std::alloc::Global;
 use std::fmt::Write;

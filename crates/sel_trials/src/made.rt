@@ -6,7 +6,7 @@ use crate::stop::Stop;
 use sel_forest::{Forest, Tree, print_forest};
 use sel_gen::{TreeMaker, make_forest};
 use sel_grammar::Grammar;
-use sel_grammar_text::print_grammar;
+use sel_grammar_print::print_grammar;
 use sel_normal::Normal;
 use sel_sheet::{Row, words_of};
 use sel_targets::target;

@@ -1,0 +1,10 @@
+pub mod PrintedTokens
+pub mod PrintedCosts
+pub mod PrintedPatterns
+pub mod PrintedSteps
+pub mod SameChecks
+pub mod PrintedTails
+pub mod RulesAgain
+pub mod OperatorsAgain
+pub mod RoundTrip
+pub mod PrintedExamples

@@ -1,0 +1,2 @@
+pub mod PrintedGrammar
+pub mod PrintedLaws

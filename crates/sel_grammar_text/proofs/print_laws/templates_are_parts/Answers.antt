@@ -1,5 +1,0 @@
-use Rattle.sel_grammar_text.proofs.RoundTrip.{templates_are_parts}
-use Rattle.sel_grammar_text.proofs.print_laws.templates_are_parts.Goals as goal
-
-pub returns : goal.returns
-returns c = templates_are_parts
