@@ -1,0 +1,11 @@
+pub mod Arities
+pub mod Counts
+pub mod Empties
+pub mod Examples
+pub mod KeyLists
+pub mod KeyPlaces
+pub mod KeyRows
+pub mod Placing
+pub mod Reaching
+pub mod StateKeys
+pub mod Uses

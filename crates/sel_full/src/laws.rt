@@ -1,0 +1,40 @@
+//! Laws of complete tables. The functions do nothing: their contracts say them.
+ghost use Rattle.sel_full.specs.Laws.{ReachedFollow, ReachIsExact, TablesAreClosed, TablesHoldTrees, KeysHavePlaces, UnusedAreEmpty, StateKeysFollow, TreesAreReady};
+
+/// What follows from a key over reached item sets is reached.
+pub fn reached_follow()
+    ensures { ReachedFollow }
+{}
+
+/// States that are reached, with the empty one among them, and from whose keys states follow alone, are
+/// exactly what is reached.
+pub fn reach_is_exact()
+    ensures { ReachIsExact }
+{}
+
+/// A lawful table has the item set of each tree, of whatever size and depth.
+pub fn tables_hold_trees()
+    ensures closed { TablesAreClosed }
+    ensures trees { TablesHoldTrees }
+{}
+
+/// Where each key stands among all.
+pub fn keys_have_places()
+    ensures { KeysHavePlaces }
+{}
+
+/// A node of an operator that no rule uses has the empty item set.
+pub fn unused_are_empty()
+    ensures { UnusedAreEmpty }
+{}
+
+/// From each key that an automaton over a lawful table is asked for follows one of its states.
+pub fn state_keys_follow()
+    ensures { StateKeysFollow }
+{}
+
+/// An automaton over a lawful table has the key of each node of a tree ready: so `label_tree` over it
+/// takes no step, and each label is numbered.
+pub fn trees_are_ready()
+    ensures { TreesAreReady }
+{}
