@@ -1,5 +1,5 @@
 -- The list of keys has each key over the states.
-use Rattle.std.proofs.Common.{◌≡◌, ℕ, zero, suc, ◌+◌, ◌-◌, ◌<◌, ◌≤◌, ◌⊎◌, inl, inr, Option, Some, None, List, [], ◌∷◌, ◌++◌, refl, ap, sym, ◌∙◌, subst, slice_get, length, arith, map}
+use Rattle.std.proofs.Common.{◌≡◌, ℕ, zero, suc, ◌+◌, ◌-◌, ◌<◌, ◌≤◌, ◌⊎◌, inl, inr, Some, List, [], ◌∷◌, ◌++◌, refl, ap, sym, ◌∙◌, subst, slice_get, length, arith, map}
 use Rattle.std.specs.List.{flat_map, range_with_len}
 use Rattle.std.proofs.lemmas.Option.{slice_get_within}
 use Rattle.sel_base.specs.declared.range.Range.{Range}
@@ -20,7 +20,7 @@ use Rattle.sel_full.specs.Tables.{IsLawfulTable, occurring, kids_by, keys_with, 
 use Rattle.sel_full.specs.Laws.{TablesAreClosed, TablesHoldTrees}
 use Rattle.sel_full.proofs.Arities.{used_has}
 use Rattle.sel_full.proofs.Reaching.{reach_is_exact}
-use Rattle.sel_full.proofs.Uses.{IsFirstUse, used_first, few_by}
+use Rattle.sel_full.proofs.Uses.{used_first, few_by}
 
 among_left : {A : Type 0} (xs ys : List A) (x : A) → IsOneOf xs x → IsOneOf (xs ++ ys) x
 among_left [] ys x (k, h) = absurd (some_none (sym h))

@@ -1,7 +1,7 @@
 -- Numbers at the places of keys.
-use Rattle.std.proofs.Common.{◌≡◌, ℕ, zero, suc, ◌+◌, ◌*◌, ◌<◌, ◌≤◌, ◌⊎◌, inl, inr, Option, Some, None, List, [], ◌∷◌, refl, ap, sym, ◌∙◌, subst, slice_get, slice_set, length, arith}
+use Rattle.std.proofs.Common.{◌≡◌, ℕ, zero, suc, ◌+◌, ◌*◌, ◌<◌, ◌≤◌, ◌⊎◌, inl, inr, Option, Some, None, List, [], ◌∷◌, refl, ap, sym, ◌∙◌, subst, slice_get, slice_set, get_or, length, arith}
 use Rattle.std.specs.Option.{option_map}
-use Rattle.std.proofs.lemmas.Option.{slice_get_within}
+use Rattle.std.proofs.lemmas.Option.{slice_get_within, slice_get_read}
 use Rattle.sel_base.specs.declared.range.Range.{Range}
 use Rattle.sel_grammar.specs.Limits.{most_operators}
 use Rattle.sel_range.specs.Classes.{Occurs}
@@ -12,10 +12,9 @@ use Rattle.sel_items.specs.declared.items.Items.{Items}
 use Rattle.sel_items.specs.declared.label.Label.{Label}
 use Rattle.sel_items.specs.declared.label.Label.TheVariants.{Numbered, Plain}
 use Rattle.sel_items.specs.Automata.{MayLabel, IsLabelled}
-use Rattle.sel_items.specs.Follows.{NodeKey, key_of, Follows}
+use Rattle.sel_items.specs.Follows.{NodeKey, key_of}
 use Rattle.sel_items.specs.Labels.{KidsAre, AreNumbered, IsKidNumbered}
 use Rattle.sel_full.specs.Automata.{FullTable, Means, IsNumberOf, TakesAll, told_of}
-use Rattle.sel_full.specs.Reach.{IsOneOf}
 use Rattle.sel_full.specs.Starts.{start_at, AreStarts, AreStartsTo}
 use Rattle.sel_full.specs.Tables.{IsLawfulTable, occurring, kids_by, all_keys, key_start}
 use Rattle.sel_full.proofs.Empties.{unused_are_empty}
@@ -23,30 +22,20 @@ use Rattle.sel_full.proofs.KeyPlaces.{keys_have_places}
 use Rattle.sel_full.proofs.StateKeys.{takes_none, takes_one, takes_two, own_key}
 use Rattle.sel_full.proofs.Uses.{takes_by, none_by, used_below}
 
-below_or_not : (a b : ℕ) → (a < b) ⊎ (b ≤ a)
-below_or_not a b = grind arith
-
 -- the list of starts, found and not
-pub start_found : (normal : NormalForm) (xs : List Items) (starts : List (Option ℕ)) (op : ℕ) (v : Option ℕ) → AreStarts normal xs starts → Some v ≡ slice_get starts op → v ≡ start_at normal xs op
-start_found normal xs starts op v are h =
-    let w = slice_get_within starts op v (sym h) in
-    let l = are.long in
-    some_same (h ∙ are.each op (omega arith))
+pub start_found : (normal : NormalForm) (xs : List Items) (starts : List (Option ℕ)) (op : ℕ) (v : Option ℕ) → AreStarts normal xs starts → op < length starts → v ≡ get_or starts op v → v ≡ start_at normal xs op
+start_found normal xs starts op v are l h = some_same (sym (slice_get_read starts (length starts) op v refl l h) ∙ are.each op (subst (λ n. op < n) are.long l))
 
 no_start : (o : Option ℕ) (k : ℕ) → o ≡ None → None ≡ option_map (λ (j : ℕ). k) o
 no_start None k e = refl
 no_start (Some j) k e = absurd (some_none e)
 
-pub start_missed : (normal : NormalForm) (xs : List Items) (starts : List (Option ℕ)) (op : ℕ) → IsStanding normal → AreStarts normal xs starts → None ≡ slice_get starts op → None ≡ start_at normal xs op
-start_missed normal xs starts op standing are h = go (below_or_not op most_operators)
+pub start_missed : (normal : NormalForm) (xs : List Items) (starts : List (Option ℕ)) (op : ℕ) → IsStanding normal → AreStarts normal xs starts → length starts ≤ op → None ≡ start_at normal xs op
+start_missed normal xs starts op standing are h = no_start (kids_by normal.rules op) (key_start normal xs op) (none (kids_by normal.rules op) refl (subst (λ n. n ≤ op) are.long h))
   where
     none : (o : Option ℕ) → kids_by normal.rules op ≡ o → most_operators ≤ op → o ≡ None
     none None e l = refl
     none (Some j) e l = let b = used_below normal op j standing e in absurd (omega arith)
-
-    go : (op < most_operators) ⊎ (most_operators ≤ op) → None ≡ start_at normal xs op
-    go (inl l) = absurd (some_none (sym (are.each op l) ∙ sym h))
-    go (inr l) = no_start (kids_by normal.rules op) (key_start normal xs op) (none (kids_by normal.rules op) refl l)
 
 some_start : (o : Option ℕ) (k s : ℕ) → Some s ≡ option_map (λ (j : ℕ). k) o → (j : ℕ) × (o ≡ Some j) × (s ≡ k)
 some_start None k s h = absurd (some_none h)
@@ -118,7 +107,7 @@ module _ (t : FullTable) (op class : ℕ) where
 
   pub leaf_takes : (a b : Option Label) → MayLabel (told_of t) op class a b → a ≡ None → TakesAll t.normal op 0
   leaf_takes None None may e = takes_none t.normal op may.lawful
-  leaf_takes None (Some y) may e = let (is, (kids, sets)) = may.kids in absurd (some_none (no_second (Some y) is kids))
+  leaf_takes None (Some y) may e = let (is, kids, sets) = may.kids in absurd (some_none (no_second (Some y) is kids))
   leaf_takes (Some x) b may e = absurd (some_none e)
 
   pub one_takes : (a b : Option Label) (x : Label) → MayLabel (told_of t) op class a b → a ≡ Some x → b ≡ None → TakesAll t.normal op 1
@@ -145,18 +134,18 @@ module _ (t : FullTable) (op class : ℕ) where
   -- the first kid's item set, and the second's
   pub first_of_one : (a b : Option Label) (x : Label) → MayLabel (told_of t) op class a b → a ≡ Some x → b ≡ None → (i : Items) × Means t x i
   first_of_one None b x may e f = absurd (some_none (sym e))
-  first_of_one (Some x) None y may e f = let (is, (kids, sets)) = may.kids in let (i, q, m) = one_kid x is kids in (i, subst (λ l. Means t l i) (some_same e) m)
+  first_of_one (Some x) None y may e f = let (is, kids, sets) = may.kids in let (i, q, m) = one_kid x is kids in (i, subst (λ l. Means t l i) (some_same e) m)
   first_of_one (Some x) (Some z) y may e f = absurd (some_none f)
 
   pub first_of_two : (a b : Option Label) (x y : Label) → MayLabel (told_of t) op class a b → a ≡ Some x → b ≡ Some y → (i : Items) × Means t x i
   first_of_two None b x y may e f = absurd (some_none (sym e))
   first_of_two (Some x) None u v may e f = absurd (some_none (sym f))
-  first_of_two (Some x) (Some y) u v may e f = let (is, (kids, sets)) = may.kids in let (i, j, q, m, n) = two_kids x y is kids in (i, subst (λ l. Means t l i) (some_same e) m)
+  first_of_two (Some x) (Some y) u v may e f = let (is, kids, sets) = may.kids in let (i, j, q, m, n) = two_kids x y is kids in (i, subst (λ l. Means t l i) (some_same e) m)
 
   pub second_of_two : (a b : Option Label) (x y : Label) → MayLabel (told_of t) op class a b → a ≡ Some x → b ≡ Some y → (i : Items) × Means t y i
   second_of_two None b x y may e f = absurd (some_none (sym e))
   second_of_two (Some x) None u v may e f = absurd (some_none (sym f))
-  second_of_two (Some x) (Some y) u v may e f = let (is, (kids, sets)) = may.kids in let (i, j, q, m, n) = two_kids x y is kids in (j, subst (λ l. Means t l j) (some_same f) n)
+  second_of_two (Some x) (Some y) u v may e f = let (is, kids, sets) = may.kids in let (i, j, q, m, n) = two_kids x y is kids in (j, subst (λ l. Means t l j) (some_same f) n)
 
   -- the number for the kids' numbers is that for the kids
   pub number_leaf : (a b : Option Label) (n : ℕ) → a ≡ None → IsNumberOf t (key_of op class []) n → (is : List Items) → KidsAre (Means t) a b is → IsNumberOf t (key_of op class is) n

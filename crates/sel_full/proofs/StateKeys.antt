@@ -1,16 +1,13 @@
 -- Keys over the states of a table.
-use Rattle.std.proofs.Common.{◌≡◌, ℕ, ◌≤◌, Option, Some, None, List, [], ◌∷◌, refl, ap, sym, ◌∙◌, subst, slice_get, length, arith}
+use Rattle.std.proofs.Common.{◌≡◌, ℕ, Option, Some, None, List, [], ◌∷◌, refl, ap, sym, ◌∙◌, subst, length, arith}
 use Rattle.sel_grammar.specs.declared.grammar.Grammar.{Grammar}
 use Rattle.sel_grammar.specs.PlainTrees.{PlainTree, Node0, Node1, Node2}
-use Rattle.sel_forest.specs.declared.forest.Tree.{Tree}
-use Rattle.sel_forest.specs.Places.{IsRootAt}
-use Rattle.sel_forest.specs.Valid.{IsOver, IsValidTree}
+use Rattle.sel_forest.specs.Valid.{IsOver}
 use Rattle.sel_forest.proofs.Matching.{within}
 use Rattle.sel_forest.proofs.Roots.{same_tree}
 use Rattle.sel_range.specs.Classes.{class_of}
 use Rattle.sel_normal.specs.Forms.{tests}
 use Rattle.sel_normal.specs.NormalForms.{NormalForm}
-use Rattle.sel_normal.specs.Standing.{IsStanding}
 use Rattle.sel_items.specs.declared.items.Items.{Items}
 use Rattle.sel_items.specs.declared.label.Label.{Label}
 use Rattle.sel_items.specs.declared.label.Label.TheVariants.{Numbered, Plain}
@@ -23,7 +20,7 @@ use Rattle.sel_label.proofs.Fitting.{attribute_value}
 use Rattle.sel_label.proofs.NodeTrees.{valid_node}
 use Rattle.sel_full.specs.Automata.{FullTable, Means, TakesAll, IsStateKey}
 use Rattle.sel_full.specs.Laws.{StateKeysFollow, TreesAreReady}
-use Rattle.sel_full.specs.Reach.{IsOneOf, IsClassFor, AreOf, kid_count}
+use Rattle.sel_full.specs.Reach.{IsOneOf, kid_count}
 use Rattle.sel_full.specs.Tables.{IsLawfulTable, kids_by}
 use Rattle.sel_full.proofs.Empties.{unused_are_empty}
 use Rattle.sel_full.proofs.KeyLists.{among_keys, key_follows, tables_hold_trees}

@@ -142,13 +142,7 @@ pub fn key_count_of(normal: &Normal, states: usize, kids: Option<u8>) -> usize
 }
 
 /// Where the keys of the next operator begin.
-fn next_start(
-    normal: &Normal,
-    states: &[Items],
-    operator: u8,
-    at: usize,
-    kids: Option<u8>,
-) -> usize
+fn next_start(normal: &Normal, states: &[Items], operator: u8, at: usize, kids: Option<u8>) -> usize
     requires at { at ≡ key_start normal.now states.now operator }
     requires kids { kids ≡ kids_by normal.now.rules operator }
     requires below { operator < most_operators }

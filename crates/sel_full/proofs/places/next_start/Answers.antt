@@ -1,10 +1,10 @@
-use Rattle.std.proofs.Common.{◌≡◌, ◌+◌, ◌≤◌, ap, sym, ◌∙◌, subst, length, refl, arith}
-use Rattle.sel_full.specs.Tables.{keys_of, keys_with, key_start, all_keys}
+use Rattle.std.proofs.Common.{◌+◌, ap, sym, ◌∙◌, length, refl, arith}
+use Rattle.sel_full.specs.Tables.{keys_with, key_start}
 use Rattle.sel_full.proofs.Counts.{pairs_fit, start_within, start_next}
 use Rattle.sel_full.proofs.places.next_start.Goals as goal
 
 pub key_count_of-count-requires : goal.key_count_of-count-requires
-key_count_of-count-requires c = λ k is two. pairs_fit c.args.normal.now c.args.states.now c.args.operator _ k c.args.kids refl c.requires.below c.requires.kids is two c.requires.fits
+key_count_of-count-requires c = record { fits = λ k is two. pairs_fit c.args.normal.now c.args.states.now c.args.operator _ k c.args.kids refl c.requires.below c.requires.kids is two c.requires.fits }
 
 pub overflow_add-result : goal.overflow_add-result
 overflow_add-result c =

@@ -1,4 +1,4 @@
-use Rattle.std.proofs.Common.{◌≡◌, ap, sym, ◌∙◌, subst}
+use Rattle.std.proofs.Common.{ap, sym, ◌∙◌, subst}
 use Rattle.sel_range.specs.Classes.{Occurs}
 use Rattle.sel_full.specs.Automata.{FullTable}
 use Rattle.sel_full.proofs.Placing.{zero_follows, within_numbers, leaf_at}
