@@ -3,6 +3,7 @@ ghost use Rattle.std.specs.Prelude.{◌≡◌, IfOk};
 ghost use Rattle.std.specs.List.{list_any};
 ghost use Rattle.sel_normal.specs.NormalForms.{NormalForm};
 ghost use Rattle.sel_rows.specs.declared.part.PassPart.{PassPart as AnyPart};
+ghost use Rattle.sel_rows.specs.Closing.{IsClosedBy};
 ghost use Rattle.sel_rows.specs.Parts.{seats_of, IsSettingOf};
 ghost use Rattle.sel_rows.specs.Tables.{setting_of, ArePartsOf};
 ghost use Rattle.sel_closing.specs.Asking.{AreMarksOf};
@@ -53,6 +54,7 @@ pub struct Closed {
 pub fn close(rows: Rows, alloc: Global, parts: List<PassPart>) -> Result<Closed, NoMemory>
     requires of { ArePartsOf rows parts }
     requires seats { seats_of parts ≡ (setting_of rows).workers }
+    ensures closed { IfOk result (λ closed. IsClosedBy (setting_of rows) parts closed.snapshot) }
     ensures marks { IfOk result (λ closed. AreMarksOf parts closed.marks.used_up closed.marks.row_full) }
     ensures tells { IfOk result (λ closed. (normal : NormalForm) (room : Room) → IsSettingOf (setting_of rows) normal room.states room.keys room.workers
         → TellsOfTrees normal room parts closed.snapshot closed.marks.used_up closed.marks.row_full) }
