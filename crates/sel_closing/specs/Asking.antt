@@ -8,13 +8,14 @@ use Rattle.sel_items.specs.Follows.{NodeKey}
 use Rattle.sel_law.specs.Words.{In}
 use Rattle.sel_rows.specs.declared.part.PassPart.{PassPart}
 use Rattle.sel_rows.specs.Meanings.{told_by}
+use Rattle.sel_rows.specs.Parts.{part_used_up, part_row_full}
 use Rattle.sel_rows.specs.Tables.{view_of}
 use Rattle.sel_work.specs.Kept.{AreTabledKept}
 use Rattle.sel_count.specs.Things.{IsAskableKey}
 
 -- what a part tells as an automaton, between its passes
 abbrev pub told_of_part : PassPart → Told
-told_of_part p = told_by (view_of p).setting.normal.value (view_of p) [] p.used_up p.row_full
+told_of_part p = told_by (view_of p).setting.normal.value (view_of p) [] (part_used_up p) (part_row_full p)
 
 -- Each key that was asked may be asked of the trees, and where the row is marked full there is a tree.
 pub record AsksOnly (g : Grammar) (trees : List Tree) (told : Told) : Type 0 where
@@ -43,5 +44,5 @@ PartsTellMore old new = (p : PassPart) → In p old → (q : PassPart) × In q n
 
 -- Each mark is set where one of the parts has it, and nowhere else.
 pub record AreMarksOf (parts : List PassPart) (used_up row_full : Bool) : Type 0 where
-  pub numbers : (used_up ≡ true) ↔ ((p : PassPart) × In p parts × (p.used_up ≡ true))
-  pub row : (row_full ≡ true) ↔ ((p : PassPart) × In p parts × (p.row_full ≡ true))
+  pub numbers : (used_up ≡ true) ↔ ((p : PassPart) × In p parts × (part_used_up p ≡ true))
+  pub row : (row_full ≡ true) ↔ ((p : PassPart) × In p parts × (part_row_full p ≡ true))

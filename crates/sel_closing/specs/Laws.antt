@@ -71,12 +71,12 @@ SnapshotsTell = (normal : NormalForm) (room : Room) (parts : List PassPart) (s :
 
 -- Where a pass isn't used up behind a labelling, exactly the nodes that aren't tabled have plain labels.
 abbrev pub PlainAreUntabled : Type 0
-PlainAreUntabled = (g : Grammar) (tree : Tree) (s : Pass) (labels : List Label) (i : ℕ) (u : PlainTree) (l : Label) → AreLabelled g tree.nodes (told_of_pass s) labels → s.used_up ≡ false
+PlainAreUntabled = (g : Grammar) (tree : Tree) (s : Pass) (labels : List Label) (i : ℕ) (u : PlainTree) (l : Label) → AreLabelled g tree.nodes (told_of_pass s) labels → (told_of_pass s).used_up ≡ false
     → IsRootAt tree.nodes i u → LabelAt labels i l → IsPlain l ↔ (IsTabled g u → ⊥)
 
 -- So its count of plain labels is that of these nodes.
 abbrev pub PlainCountsUntabled : Type 0
-PlainCountsUntabled = (g : Grammar) (tree : Tree) (s : Pass) (n : ℕ) → IsValidTree g tree → IsPlainCount g tree.nodes (told_of_pass s) n → s.used_up ≡ false → CountIs (IsUntabledPlace g (tree ∷ [])) n
+PlainCountsUntabled = (g : Grammar) (tree : Tree) (s : Pass) (n : ℕ) → IsValidTree g tree → IsPlainCount g tree.nodes (told_of_pass s) n → (told_of_pass s).used_up ≡ false → CountIs (IsUntabledPlace g (tree ∷ [])) n
 
 -- No trees have no nodes, the nodes of two lists of trees add up, and their number is one.
 abbrev pub UntabledAddUp : Type 0

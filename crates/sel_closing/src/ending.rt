@@ -2,9 +2,8 @@
 ghost use Rattle.std.specs.Prelude.{◌≡◌, IfOk};
 ghost use Rattle.std.specs.List.{list_any};
 ghost use Rattle.sel_normal.specs.NormalForms.{NormalForm};
-ghost use Rattle.sel_rows.specs.declared.part.PassPart.{PassPart as AnyPart};
 ghost use Rattle.sel_rows.specs.Closing.{IsClosedBy};
-ghost use Rattle.sel_rows.specs.Parts.{seats_of, IsSettingOf};
+ghost use Rattle.sel_rows.specs.Parts.{seats_of, part_used_up, part_row_full, IsSettingOf};
 ghost use Rattle.sel_rows.specs.Tables.{setting_of, ArePartsOf};
 ghost use Rattle.sel_closing.specs.Asking.{AreMarksOf};
 ghost use Rattle.sel_closing.specs.Closings.{TellsOfTrees};
@@ -22,13 +21,13 @@ pub struct Marks {
 }
 
 fn any_used_up(parts: &[PassPart]) -> bool
-    ensures { result ≡ list_any (λ (part : AnyPart). part.used_up) parts.now }
+    ensures { result ≡ list_any part_used_up parts.now }
 {
     parts.iter().any(|part| part.used_up())
 }
 
 fn any_row_full(parts: &[PassPart]) -> bool
-    ensures { result ≡ list_any (λ (part : AnyPart). part.row_full) parts.now }
+    ensures { result ≡ list_any part_row_full parts.now }
 {
     parts.iter().any(|part| part.row_full())
 }
