@@ -1,4 +1,5 @@
 pub mod Members
+pub mod AnyOrder
 pub mod Asks
 pub mod Keeping
 pub mod SnapshotLists

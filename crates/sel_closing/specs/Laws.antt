@@ -1,5 +1,5 @@
 -- Laws of closed tables and their parts.
-use Rattle.std.specs.Prelude.{◌≡◌, ◌↔◌, ℕ, ◌+◌, ◌-◌, ◌<◌, ◌^◌, Bool, false, List, [], ◌∷◌, ◌++◌, min}
+use Rattle.std.specs.Prelude.{◌≡◌, ◌↔◌, ℕ, ◌+◌, ◌-◌, ◌<◌, ◌^◌, Bool, false, List, [], ◌∷◌, ◌++◌, length, min}
 use Rattle.std.specs.List.{Contains}
 use Rattle.sel_grammar.specs.declared.grammar.Grammar.{Grammar}
 use Rattle.sel_grammar.specs.PlainTrees.{PlainTree}
@@ -16,16 +16,17 @@ use Rattle.sel_label.specs.Labelling.{AddsOfTree, AreLabelled, LabelAt}
 use Rattle.sel_rows.specs.declared.part.PassPart.{PassPart}
 use Rattle.sel_rows.specs.declared.pass.Pass.{Pass}
 use Rattle.sel_rows.specs.declared.snapshot.Snapshot.{Snapshot}
+use Rattle.sel_rows.specs.Counts.{counted}
 use Rattle.sel_rows.specs.Parts.{AreFresh}
 use Rattle.sel_rows.specs.Tables.{IsPassOf}
 use Rattle.sel_rows.specs.Told.{told_of_pass}
 use Rattle.sel_work.specs.Kept.{AreTabledKept, IsPlainCount}
-use Rattle.sel_count.specs.Counts.{CountIs}
+use Rattle.sel_count.specs.Counts.{AllDiffer, ListsExactly, CountIs}
 use Rattle.sel_count.specs.Things.{AreValid}
 use Rattle.sel_closing.specs.Asking.{told_of_part, AsksOnly, TellsMore, PartsAskOnly, PartsKeep, PartsTellMore}
 use Rattle.sel_closing.specs.Closings.{IsClosingOf, TellsOfTrees}
 use Rattle.sel_closing.specs.SnapshotTables.{Room}
-use Rattle.sel_closing.specs.Untabled.{IsUntabledPlace, CountsUntabled}
+use Rattle.sel_closing.specs.Untabled.{IsUntabledPlace, CountsUntabled, AreTreesAt}
 
 -- The trees of a valid forest are valid.
 abbrev pub ForestsAreValid : Type 0
@@ -89,3 +90,13 @@ abbrev pub StoppedCountsAddUp : Type 0
 StoppedCountsAddUp = (g : Grammar) → CountsUntabled g [] 0
     × ((trees : List Tree) (n : ℕ) → n < 2 ^ 64 → CountIs (IsUntabledPlace g trees) n → CountsUntabled g trees n)
     × ((xs ys : List Tree) (a b : ℕ) → CountsUntabled g xs a → CountsUntabled g ys b → CountsUntabled g (xs ++ ys) (min (a + b) (2 ^ 64 - 1)))
+
+-- One more tree, behind which the pass isn't used up, adds its plain labels to the count.
+abbrev pub PlainAddsUp : Type 0
+PlainAddsUp = (g : Grammar) (trees : List Tree) (tree : Tree) (s : Pass) (count n : ℕ) → IsValidTree g tree → IsPlainCount g tree.nodes (told_of_pass s) n → (told_of_pass s).used_up ≡ false
+    → CountsUntabled g trees count → CountsUntabled g (trees ++ tree ∷ []) (counted count n)
+
+-- In whatever order trees are counted, there are as many: where each number of a tree was drawn once, the trees of the numbers have as many as all trees.
+abbrev pub CountsInAnyOrder : Type 0
+CountsInAnyOrder = (g : Grammar) (trees drawn : List Tree) (numbers : List ℕ) (count : ℕ) → AllDiffer numbers → ListsExactly (λ n. n < length trees) numbers → AreTreesAt trees numbers drawn
+    → CountsUntabled g drawn count → CountsUntabled g trees count

@@ -1,5 +1,5 @@
 //! Laws of closed tables and their parts. The functions do nothing: their contracts say them.
-ghost use Rattle.sel_closing.specs.Laws.{ForestsAreValid, FreshAskNothing, AskOfMore, PassesTellOfParts, AnswersAskOnly, AnswersTellMore, KeptStaysKept, PartsStillKeep, PartsKeepBoth, SnapshotsTell, PlainAreUntabled, PlainCountsUntabled, UntabledAddUp, StoppedCountsAddUp};
+ghost use Rattle.sel_closing.specs.Laws.{ForestsAreValid, FreshAskNothing, AskOfMore, PassesTellOfParts, AnswersAskOnly, AnswersTellMore, KeptStaysKept, PartsStillKeep, PartsKeepBoth, SnapshotsTell, PlainAreUntabled, PlainCountsUntabled, UntabledAddUp, StoppedCountsAddUp, PlainAddsUp, CountsInAnyOrder};
 
 /// The trees of a valid forest are valid.
 pub fn forests_are_valid()
@@ -49,4 +49,11 @@ pub fn plain_are_untabled()
 pub fn untabled_add_up()
     ensures exact { UntabledAddUp }
     ensures stopped { StoppedCountsAddUp }
+{}
+
+/// One more tree, behind which the pass isn't used up, adds its plain labels to the count of the nodes that aren't
+/// tabled. The trees may be counted in the order of any draws in which each number comes once.
+pub fn plain_counts_add_up()
+    ensures more { PlainAddsUp }
+    ensures order { CountsInAnyOrder }
 {}
