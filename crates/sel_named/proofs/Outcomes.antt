@@ -14,23 +14,23 @@ use Rattle.sel_regs.proofs.SomeScan.{scan_exists}
 use Rattle.sel_regs.proofs.Sharing.{none_share}
 use Rattle.sel_regs.proofs.Sweeping.{assigned}
 use Rattle.sel_named.specs.TextLines.{temps_by_line, temps_of}
-use Rattle.sel_named.specs.NamedTexts.{bytes_by_name, IsByName, TakesMore, IsAllotted, IsNamed, IsNamedText}
+use Rattle.sel_named.specs.NamedTexts.{bytes_by_name, IsByName, TakesMore, IsAllotted, Becomes, IsNamedText}
 use Rattle.sel_named.specs.declared.texts.NamedText.{NamedText}
 use Rattle.sel_named.specs.declared.texts.NamedText.TheVariants as named
 use Rattle.sel_named.specs.Laws.{NamedIsOne, NamedExists, HasRegister, NamedIsRenamed, EnoughAreNamed}
 use Rattle.sel_named.proofs.Cuts.{temp_within}
 
-is_named : (text : Text) (names : List (List ℕ)) (answer : NamedText) → length (text_bytes text) ≤ longest_text → IsAllotted text names answer → IsNamed text names answer
-is_named text names (named.Text bytes) short h = (short, h)
-is_named text names (named.TooFew n) short h = (short, h)
-is_named text names named.TooLong short h = absurd h
+outcome : (text : Text) (names : List (List ℕ)) (answer : NamedText) → length (text_bytes text) ≤ longest_text → IsAllotted text names answer → Becomes text names answer
+outcome text names (named.Text bytes) short h = (short, h)
+outcome text names (named.TooFew n) short h = (short, h)
+outcome text names named.TooLong short h = absurd h
 
 -- what becomes of a text that a derivation expands to
 pub allotted_is_named : {E : Type 0} (g : Grammar) (tree : Tree) (rules : List ℕ) (names : List (List ℕ)) (text : Text) (result : Result NamedText E)
     → IsEmitted g tree rules text → IfOk result (λ answer. IsAllotted text names answer) → IfOk result (λ answer. IsNamedText g tree rules names answer)
 allotted_is_named g tree rules names text (Err fault) emitted h = tt
 allotted_is_named g tree rules names text (Ok answer) emitted h = λ t d is.
-    let e = emitted t d is in subst (λ (x : Text). IsNamed x names answer) e.0 (is_named text names answer e.1 h)
+    let e = emitted t d is in subst (λ (x : Text). Becomes x names answer) e.0 (outcome text names answer e.1 h)
 
 same_bytes : (text : Text) (names : List (List ℕ)) (a b : List ℕ) → IsByName text names a → IsByName text names b → a ≡ b
 same_bytes text names a b p q =

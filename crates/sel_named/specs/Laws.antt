@@ -10,17 +10,17 @@ use Rattle.sel_expand.specs.Expanding.{IsDerivationBy, IsText}
 use Rattle.sel_regs.specs.Lives.{needs}
 use Rattle.sel_regs.specs.Scans.{register_of, ShareNone}
 use Rattle.sel_named.specs.TextLines.{temps_by_line, temps_of}
-use Rattle.sel_named.specs.NamedTexts.{bytes_by_name, IsNamed, IsNamedText}
+use Rattle.sel_named.specs.NamedTexts.{bytes_by_name, Becomes, IsNamedText}
 use Rattle.sel_named.specs.declared.texts.NamedText.{NamedText}
 use Rattle.sel_named.specs.declared.texts.NamedText.TheVariants as named
 
 -- At most one thing becomes of a text.
 abbrev pub NamedIsOne : Type 0
-NamedIsOne = (text : Text) (names : List (List ℕ)) (a b : NamedText) → IsNamed text names a → IsNamed text names b → a ≡ b
+NamedIsOne = (text : Text) (names : List (List ℕ)) (a b : NamedText) → Becomes text names a → Becomes text names b → a ≡ b
 
 -- Where there is a register, something becomes of each text.
 abbrev pub NamedExists : Type 0
-NamedExists = (text : Text) (names : List (List ℕ)) → 1 ≤ length names → (answer : NamedText) × IsNamed text names answer
+NamedExists = (text : Text) (names : List (List ℕ)) → 1 ≤ length names → (answer : NamedText) × Becomes text names answer
 
 -- the temporary has one of so many registers
 pub record HasRegister (registers : List ℕ) (count k : ℕ) : Type 0 where
@@ -45,4 +45,4 @@ NamedIsRenamed = (g : Grammar) (tree : Tree) (t : PlainTree) (d : Derivation) (r
 
 -- Where there are enough registers, there is a text with names.
 abbrev pub EnoughAreNamed : Type 0
-EnoughAreNamed = (text : Text) (names : List (List ℕ)) (n : ℕ) → needs (temps_by_line text) (temps_of text) ≤ length names → IsNamed text names (named.TooFew n) → ⊥
+EnoughAreNamed = (text : Text) (names : List (List ℕ)) (n : ℕ) → needs (temps_by_line text) (temps_of text) ≤ length names → Becomes text names (named.TooFew n) → ⊥

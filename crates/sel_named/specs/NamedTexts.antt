@@ -49,18 +49,18 @@ IsAllotted text names (named.TooFew n) = TakesMore text (length names) n
 IsAllotted text names named.TooLong = ⊥
 
 -- What becomes of a text. Whether it is too long goes by the numbers of its temporaries, before they have registers.
-abbrev pub IsNamed : Text → List (List ℕ) → NamedText → Type 0
-IsNamed text names (named.Text bytes) = (length (text_bytes text) ≤ longest_text) × IsByName text names bytes
-IsNamed text names (named.TooFew n) = (length (text_bytes text) ≤ longest_text) × TakesMore text (length names) n
-IsNamed text names named.TooLong = longest_text < length (text_bytes text)
+abbrev pub Becomes : Text → List (List ℕ) → NamedText → Type 0
+Becomes text names (named.Text bytes) = (length (text_bytes text) ≤ longest_text) × IsByName text names bytes
+Becomes text names (named.TooFew n) = (length (text_bytes text) ≤ longest_text) × TakesMore text (length names) n
+Becomes text names named.TooLong = longest_text < length (text_bytes text)
 
 -- what becomes of the text that the derivation expands to
 abbrev pub IsNamedText : Grammar → Tree → List ℕ → List (List ℕ) → NamedText → Type 0
-IsNamedText g tree rules names answer = (t : PlainTree) (d : Derivation) → IsDerivationBy g tree rules t d → IsNamed (expanded g d t) names answer
+IsNamedText g tree rules names answer = (t : PlainTree) (d : Derivation) → IsDerivationBy g tree rules t d → Becomes (expanded g d t) names answer
 
 -- the cost of the tree's best derivation from the start symbol, and what becomes of the text that it expands to
 pub record IsBestNamed (g : Grammar) (t : PlainTree) (names : List (List ℕ)) (c : Cost) (answer : NamedText) : Type 0 where
   pub best : Derivation
   pub is_best : IsBest g best g.start t
   pub cost_is : c ≡ cost g best
-  pub named : IsNamed (expanded g best t) names answer
+  pub named : Becomes (expanded g best t) names answer

@@ -1,6 +1,7 @@
 -- The lines of a text, and the temporaries that they name.
 use Rattle.std.specs.Prelude.{ℕ, Bool, false, ◌==◌, if◌then◌else◌, Option, Some, None, List, [], ◌∷◌, map}
 use Rattle.std.specs.List.{filter_map, onto_first}
+use Rattle.sel_base.specs.Ascii.{line_feed}
 use Rattle.sel_grammar.specs.declared.emission.Emitted.{Emitted}
 use Rattle.sel_grammar.specs.declared.emission.Emitted.TheVariants.{Byte, Temporary}
 use Rattle.sel_grammar.specs.Expansions.{Text}
@@ -20,7 +21,7 @@ abbrev pub temps_of : Text → ℕ
 temps_of text = greatest_of (temps_in text)
 
 abbrev pub is_line_end : Emitted → Bool
-is_line_end (Byte b) = b == 10
+is_line_end (Byte b) = b == line_feed
 is_line_end (Temporary k) = false
 
 -- The lines of a text: it is cut at line ends, and what stands behind the last one is a line where it isn't empty.
