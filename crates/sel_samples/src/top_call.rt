@@ -1,9 +1,10 @@
-// The calls of the rows: the top call over texts in memory, the trees that pass its gate, and the words alone.
+// The calls of the rows: the top call over texts in memory, the trees that pass its gate, the program's exit
+// status, and the words alone.
 use crate::command::command_told;
 use crate::counting_gate::CountingGate;
 use sel_base::{MemoryShelf, MemorySink, NoMemory, OpenGate};
-use sel_cli::Status;
 use sel_cli::run::run;
+use sel_cli::{Status, run_program};
 use sel_sheet::{Answer, Calls, Row, words_of};
 use std::alloc::Global;
 use std::thread::Threads;
@@ -14,8 +15,12 @@ const ERR_PIECE: usize = 100;
 /// A status whose fault isn't that of the line on the error stream.
 const NOT_TOLD: u64 = 999;
 
-/// `run`, in a row without a line `call`; `read_words`, in one with `call words`; and the trees that pass the gate
-/// of `run`, in one with `call gate`.
+/// The status of `run_program` where there was no memory.
+const NO_MEMORY: u8 = 7;
+
+/// `run`, in a row without a line `call`; `read_words`, in one with `call words`; the trees that pass the gate of
+/// `run`, in one with `call gate`; and `run_program`, in one with `call program`, or with `call unread` where there
+/// is no memory for the words.
 #[derive(Clone, Copy)]
 pub struct TopCall<'r, Rt> {
     pub rt: &'r Rt,
@@ -114,11 +119,35 @@ fn passed<Rt: Threads>(
     })
 }
 
+// How the program exits with these words, or with none, since there was no memory for them.
+fn exited<Rt: Threads>(
+    rt: &Rt,
+    alloc: Global,
+    row: &Row<'_>,
+    words: Result<Vec<String>, NoMemory>,
+) -> Result<Answer, NoMemory> {
+    let are_read = words.is_ok();
+    let Outside {
+        mut shelf,
+        mut out,
+        mut err,
+    } = outside_of(alloc, row)?;
+    let code = run_program(rt, alloc, words, &mut shelf, &mut out, &mut err, &OpenGate);
+    Ok(Answer {
+        out: Vec::from_slice(alloc, out.bytes())?,
+        err: Vec::from_slice(alloc, err.bytes())?,
+        status: code as u64,
+        no_memory: are_read && code == NO_MEMORY,
+    })
+}
+
 impl<'r, Rt: Threads> Calls for TopCall<'r, Rt> {
     fn answer(&self, alloc: Global, row: &Row<'_>, words: &str) -> Result<Answer, NoMemory> {
         match row.call {
             "words" => command_told(alloc, words),
             "gate" => passed(self.rt, alloc, row, words),
+            "program" => exited(self.rt, alloc, row, Ok(words_of(alloc, words)?)),
+            "unread" => exited(self.rt, alloc, row, Err(NoMemory)),
             _ => ended(self.rt, alloc, row, words),
         }
     }
