@@ -16,3 +16,4 @@ pub mod OneAnswer
 pub mod Pairs
 pub mod Items
 pub mod TextExamples
+pub mod Texts

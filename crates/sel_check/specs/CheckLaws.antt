@@ -1,5 +1,6 @@
 -- Laws of texts of certificates.
-use Rattle.std.specs.Prelude.{◌≡◌, ℕ, Option, List, [], ◌∷◌}
+use Rattle.std.specs.Prelude.{◌≡◌, ℕ, Bool, Option, List, [], ◌∷◌, is_some}
+use Rattle.std.specs.List.{list_all}
 use Rattle.sel_grammar.specs.declared.grammar.Grammar.{Grammar}
 use Rattle.sel_grammar.specs.Costs.{Cost}
 use Rattle.sel_grammar.specs.PlainTrees.{PlainTree}
@@ -26,6 +27,13 @@ abbrev pub AreCertified : Grammar → List Tree → List TreeCertificate → Typ
 AreCertified g [] [] = Unit {0}
 AreCertified g (tree ∷ trees) (c ∷ cs) = IsCertified g tree c × AreCertified g trees cs
 AreCertified g _ _ = ⊥
+
+-- Of each tree, numbered from this number on, what `certify` gives is in the text; and whether each has a cover.
+pub record IsCertifiedText (g : Grammar) (number : ℕ) (trees : List Tree) (text : List ℕ) (covered : Bool) : Type 0 where
+  pub certificates : List TreeCertificate
+  pub certified : AreCertified g trees certificates
+  pub text_is : text ≡ certificates_text number certificates
+  pub covered_is : covered ≡ list_all (λ (c : TreeCertificate). is_some c.rules) certificates
 
 -- the text of what `certify` gives of a forest's trees proves costs
 abbrev pub CertifiedIsProved : Type 0

@@ -5,6 +5,7 @@ mod bounds;
 mod certificate;
 mod checker;
 mod entries;
+mod forest_text;
 pub mod kinds;
 pub mod laws;
 mod lines;
@@ -16,6 +17,7 @@ mod tree_check;
 
 pub use certificate::{TreeCertificate, certify};
 pub use checker::check;
+pub use forest_text::{CertifiedTrees, certify_trees};
 pub use print::print_certificate;
 pub use refusal::{CheckFault, CheckRefusal, TreeFault, TreeRefusal};
 pub use tree_check::check_tree;

@@ -77,6 +77,21 @@ fn put_rows(text: &mut Vec<u8>, rows: &[List<Option<Pair>>]) -> Result<(), NoMem
     Ok(())
 }
 
+/// Puts the text of a tree's certificate behind the text, the tree having the number.
+pub fn put_certificate(
+    text: &mut Vec<u8>,
+    certificate: &TreeCertificate,
+    number: u32,
+) -> Result<(), NoMemory>
+    ensures { OnOk result (text.new.items ≡ text.old.items ++ certificate_text number certificate.now) }
+{
+    put(text, b"tree ")?;
+    put_number(text, number as u64)?;
+    put(text, b"\n")?;
+    put_rows(text, certificate.costs.as_slice())?;
+    put_cover(text, &certificate.rules)
+}
+
 /// The text of a tree's certificate, the tree having the number. Its first line is `tree` and the
 /// number, then each node has a line in postorder with an entry for each nonterminal, and the last line
 /// has the rules' numbers behind `cover`, or is `no cover`.
@@ -88,10 +103,6 @@ pub fn print_certificate(
     ensures { IfOk result (λ text. text ≡ certificate_text number certificate.now) }
 {
     let mut text = Vec::new(alloc);
-    put(&mut text, b"tree ")?;
-    put_number(&mut text, number as u64)?;
-    put(&mut text, b"\n")?;
-    put_rows(&mut text, certificate.costs.as_slice())?;
-    put_cover(&mut text, &certificate.rules)?;
+    put_certificate(&mut text, certificate, number)?;
     Ok(List::from_vec(text))
 }
