@@ -29,7 +29,5 @@ fn main(rt: HostRuntime) -> ExitCode {
     let mut shelf = FileShelf::new(&rt, alloc);
     let mut out = StreamSink::new(rt.stdout());
     let mut err = StreamSink::new(rt.stderr());
-    ExitCode::from(run_program(
-        &rt, alloc, words, &mut shelf, &mut out, &mut err, &OpenGate,
-    ))
+    ExitCode::from(run_program(&rt, alloc, words, &mut shelf, &mut out, &mut err, &OpenGate))
 }
