@@ -52,13 +52,14 @@ made w s r d t z =
     z) t) d) r) s) w
 
 -- where there are settings, each of the values is there
-record AreThese (s r t z : Option ℕ) (settings : Settings) : Type 0 where
+record AreThese (w s r t z : Option ℕ) (settings : Settings) : Type 0 where
+  workers : w ≡ Some settings.workers
   states : s ≡ Some settings.states
   rows : r ≡ Some settings.rows
   trees : t ≡ Some settings.trees
   size : z ≡ Some settings.size
 
-made_parts : (w s r d t z : Option ℕ) (settings : Settings) → made w s r d t z ≡ Some settings → AreThese s r t z settings
+made_parts : (w s r d t z : Option ℕ) (settings : Settings) → made w s r d t z ≡ Some settings → AreThese w s r t z settings
 made_parts None s r d t z settings e = absurd (cc)
 made_parts (Some w) None r d t z settings e = absurd (cc)
 made_parts (Some w) (Some s) None d t z settings e = absurd (cc)
@@ -69,6 +70,7 @@ made_parts (Some w) (Some s) (Some r) (Some d) (Some t) (Some z) settings e =
     let whole : Settings = record { workers = w; states = s; rows = r; seed = d; trees = t; size = z } in
     let same : whole ≡ settings = cc in
     record {
+      workers = ap (λ (x : Settings). Some x.workers) same;
       states = ap (λ (x : Settings). Some x.states) same;
       rows = ap (λ (x : Settings). Some x.rows) same;
       trees = ap (λ (x : Settings). Some x.trees) same;
@@ -80,6 +82,8 @@ chosen_bounded values settings e =
     let parts = made_parts (chosen_value workers_bounds (values (codes "workers"))) (chosen_value states_bounds (values (codes "states"))) (chosen_value rows_bounds (values (codes "rows")))
     (chosen_value seed_bounds (values (codes "seed"))) (chosen_value trees_bounds (values (codes "trees"))) (chosen_value size_bounds (values (codes "size"))) settings e in
     record {
+      some_workers = (value_bounded workers_bounds (values (codes "workers")) settings.workers (omega arith, omega arith) parts.workers).0;
+      few_workers = (value_bounded workers_bounds (values (codes "workers")) settings.workers (omega arith, omega arith) parts.workers).1;
       few_states = (value_bounded states_bounds (values (codes "states")) settings.states (omega arith, omega arith) parts.states).1;
       few_rows = (value_bounded rows_bounds (values (codes "rows")) settings.rows (omega arith, omega arith) parts.rows).1;
       few_trees = (value_bounded trees_bounds (values (codes "trees")) settings.trees (omega arith, omega arith) parts.trees).1;

@@ -54,8 +54,10 @@ chosen_settings values =
     (chosen_value size_bounds (values (codes "size")))) (chosen_value trees_bounds (values (codes "trees")))) (chosen_value seed_bounds (values (codes "seed"))))
     (chosen_value rows_bounds (values (codes "rows")))) (chosen_value states_bounds (values (codes "states")))) (chosen_value workers_bounds (values (codes "workers")))
 
--- the automaton's numbers of states and transitions, and a made forest's of trees and their size, are within their bounds
+-- the number of workers, the automaton's of states and transitions, and a made forest's of trees and their size, are within their bounds
 pub record AreWithinBounds (settings : Settings) : Type 0 where
+  pub some_workers : workers_bounds.least ≤ settings.workers
+  pub few_workers : settings.workers ≤ workers_bounds.greatest
   pub few_states : settings.states ≤ states_bounds.greatest
   pub few_rows : settings.rows ≤ rows_bounds.greatest
   pub few_trees : settings.trees ≤ trees_bounds.greatest
