@@ -4,8 +4,10 @@
 mod automaton;
 mod key;
 mod labelling;
+mod parked;
 mod private;
 mod states;
 mod transitions;
 
+pub use parked::ParkedAutomaton;
 pub use private::PrivateAutomaton;

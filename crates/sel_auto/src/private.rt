@@ -5,8 +5,10 @@ ghost use Rattle.sel_items.specs.Labels.{KidsAre, AreKidSets, IsClassOver};
 ghost use Rattle.sel_auto.specs.Sets.{IsAmong, AreDifferent};
 ghost use Rattle.sel_auto.specs.Tables.{Means, IsKept, IsTransition, meaning, kid_meaning, empty_tables, with_evaluation, with_plain, with_state, with_key, with_used_up};
 ghost use Rattle.sel_auto.specs.TableChanges.{FollowsKids};
+ghost use Rattle.sel_auto.specs.Parked.{parked_tables, IsParkedOver};
 
 use crate::key::StateKey;
+use crate::parked::ParkedAutomaton;
 use crate::states::States;
 use crate::transitions::Transitions;
 use sel_base::{NoMemory, Steps};
@@ -86,6 +88,41 @@ impl<'n> PrivateAutomaton<'n> {
             row_full: false,
             evaluated: 0,
         })
+    }
+
+    /// Takes up the tables of a parked automaton again, over the normal form that they are of.
+    pub fn resume(normal: &'n Normal, parked: ParkedAutomaton) -> PrivateAutomaton<'n>
+        requires { IsParkedOver normal.now parked }
+        ensures { result ≡ parked_tables normal.now parked }
+    {
+        PrivateAutomaton {
+            normal,
+            most_states: parked.most_states,
+            most_keys: parked.most_keys,
+            states: parked.states,
+            transitions: parked.transitions,
+            plain: parked.plain,
+            used_up: parked.used_up,
+            row_full: parked.row_full,
+            evaluated: parked.evaluated,
+        }
+    }
+
+    /// Lets the normal form go, and keeps all that is known.
+    pub fn park(self) -> ParkedAutomaton
+        ensures kept { parked_tables self.entry.normal result ≡ self.entry }
+        ensures over { IsParkedOver self.entry.normal result }
+    {
+        ParkedAutomaton {
+            most_states: self.most_states,
+            most_keys: self.most_keys,
+            states: self.states,
+            transitions: self.transitions,
+            plain: self.plain,
+            used_up: self.used_up,
+            row_full: self.row_full,
+            evaluated: self.evaluated,
+        }
     }
 
     /// How many states are kept. Their item sets differ.
