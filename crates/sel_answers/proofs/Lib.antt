@@ -1,2 +1,4 @@
 pub mod Answering
-pub mod Summing
+pub mod MoreSums
+pub mod TableTexts
+pub mod TreeLists

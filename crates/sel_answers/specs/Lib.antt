@@ -1,2 +1,4 @@
 pub mod Output
-pub mod Telling
+pub mod Summing
+pub mod Reported
+pub mod Laws

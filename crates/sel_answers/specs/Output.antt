@@ -18,9 +18,9 @@ use Rattle.sel_work.specs.declared.answer.Goal.{Goal}
 use Rattle.sel_work.specs.declared.answer.Goal.TheVariants as goals
 use Rattle.sel_work.specs.Answers.{IsTreeAnswer}
 use Rattle.sel_gen.specs.Made.{IsMadeForest}
+use Rattle.sel_count.specs.Counts.{CountIs}
+use Rattle.sel_count.specs.Things.{IsTabledItems, IsTabledKey}
 use Rattle.sel_words.specs.Words.{Job, PrintGrammar, Make, OverForest}
-use Rattle.sel_answers.specs.declared.told.Told.{Told}
-use Rattle.sel_answers.specs.declared.told.Told.TheVariants as told
 use Rattle.sel_words.specs.declared.words.Mode.TheVariants as mode
 
 -- the answer of the tree that the nodes spell
@@ -116,31 +116,47 @@ summary_text second answers =
     ++ (told_line (codes "uncovered ") (decimal (count_by is_uncovered answers))
     ++ told_line (codes "cost ") (cost_text second (sum_of_costs answers)))
 
--- what is asked of each tree
-abbrev pub goal_of : Told → Goal
-goal_of told.Covers = goals.Cover
-goal_of told.Texts = goals.Text
-goal_of told.Summary = goals.Cover
+-- how many states and keys there are, a line each
+abbrev pub counts_text : ℕ → ℕ → List ℕ
+counts_text states keys = told_line (codes "states ") (decimal states) ++ told_line (codes "keys ") (decimal keys)
 
--- what is written of the answers of a forest's trees: each by itself, numbered from 1, or a summary
-abbrev pub told_of : Told → Bool → List Answer → List ℕ
-told_of told.Covers second answers = answers_text second 1 answers
-told_of told.Texts second answers = answers_text second 1 answers
-told_of told.Summary second answers = summary_text second answers
+-- the marks that are set, a line each
+abbrev pub marks_text : Bool → Bool → List ℕ
+marks_text used_up row_full = (if used_up then codes "used up\n" else []) ++ (if row_full then codes "row full\n" else [])
 
--- the bytes tell the answers of the trees, and `covered` tells whether every answer is a cover or a text
-pub record AreAnswered (g : Grammar) (told : Told) (trees : List Tree) (covered : Bool) (bytes : List ℕ) : Type 0 where
+-- the marks of the table over which trees were answered: its numbers of states were used up, its row of keys was full
+pub record TableMarks : Type 0 where
+  pub used_up : Bool
+  pub row_full : Bool
+
+-- what is told of a table with these marks over which the trees were answered: how many item sets and keys their tabled nodes have, or the marks
+abbrev pub IsToldBy : Bool → Bool → Grammar → List Tree → List ℕ → Type 0
+IsToldBy false false g trees bytes = (states : ℕ) × (keys : ℕ) × CountIs (IsTabledItems g trees) states × CountIs (IsTabledKey g trees) keys × (bytes ≡ counts_text states keys)
+IsToldBy false true g trees bytes = bytes ≡ marks_text false true
+IsToldBy true row_full g trees bytes = bytes ≡ marks_text true row_full
+
+-- the bytes tell the answers of the trees, which are numbered behind so many others, and `covered` tells whether every answer is a cover or a text
+pub record AreAnswered (g : Grammar) (goal : Goal) (before : ℕ) (trees : List Tree) (covered : Bool) (bytes : List ℕ) : Type 0 where
   pub answers : List Answer
-  pub answer_trees : AreAnswers g (goal_of told) trees answers
-  pub written : bytes ≡ told_of told (has_second_costs g) answers
+  pub answer_trees : AreAnswers g goal trees answers
+  pub written : bytes ≡ answers_text (has_second_costs g) (before + 1) answers
   pub all_covered : list_all is_covered answers ≡ covered
 
--- The defined output of a job over a grammar and, for most, a forest that was read, and whether every tree is covered, and its text not too long.
-abbrev pub IsOutput : Job → Grammar → Option Forest → Bool → List ℕ → Type 0
-IsOutput PrintGrammar g None covered bytes = (bytes ≡ printed g) × (covered ≡ true)
-IsOutput (Make seed trees size) g None covered bytes = (forest : Forest) × IsMadeForest g seed trees size forest × AreAnswered g told.Summary forest.trees covered bytes
-IsOutput (OverForest mode.Cover name) g (Some forest) covered bytes = AreAnswered g told.Covers forest.trees covered bytes
-IsOutput (OverForest mode.Select name) g (Some forest) covered bytes = AreAnswered g told.Texts forest.trees covered bytes
-IsOutput (OverForest mode.Summary name) g (Some forest) covered bytes = AreAnswered g told.Summary forest.trees covered bytes
-IsOutput (OverForest mode.Print name) g (Some forest) covered bytes = IsPrinted g forest bytes × (covered ≡ true)
-IsOutput _ _ _ _ _ = ⊥
+-- the bytes tell the sums of the trees' covers and, behind them, what is told of the table with these marks; `covered` tells whether every tree has a cover
+pub record AreSummedUp (g : Grammar) (marks : TableMarks) (trees : List Tree) (covered : Bool) (bytes : List ℕ) : Type 0 where
+  pub answers : List Answer
+  pub answer_trees : AreAnswers g goals.Cover trees answers
+  pub table : List ℕ
+  pub tells : IsToldBy marks.used_up marks.row_full g trees table
+  pub written : bytes ≡ summary_text (has_second_costs g) answers ++ table
+  pub all_covered : list_all is_covered answers ≡ covered
+
+-- The defined output of a job over a grammar and, for most, a forest that was read, with the marks of the table over which its trees were answered, and whether every tree is covered, and its text not too long.
+abbrev pub IsOutput : Job → Grammar → Option Forest → TableMarks → Bool → List ℕ → Type 0
+IsOutput PrintGrammar g None marks covered bytes = (bytes ≡ printed g) × (covered ≡ true)
+IsOutput (Make seed trees size) g None marks covered bytes = (forest : Forest) × IsMadeForest g seed trees size forest × AreSummedUp g marks forest.trees covered bytes
+IsOutput (OverForest mode.Cover name) g (Some forest) marks covered bytes = AreAnswered g goals.Cover 0 forest.trees covered bytes
+IsOutput (OverForest mode.Select name) g (Some forest) marks covered bytes = AreAnswered g goals.Text 0 forest.trees covered bytes
+IsOutput (OverForest mode.Summary name) g (Some forest) marks covered bytes = AreSummedUp g marks forest.trees covered bytes
+IsOutput (OverForest mode.Print name) g (Some forest) marks covered bytes = IsPrinted g forest bytes × (covered ≡ true)
+IsOutput _ _ _ _ _ _ = ⊥

@@ -1,10 +1,10 @@
 // The answer of a tree, as text.
-ghost use Rattle.std.specs.Prelude.{◌≡◌, ◌++◌, OnOk, not, ◌==◌};
-ghost use Rattle.std.specs.List.{list_any};
-ghost use Rattle.sel_answers.specs.Output.{answer_text, told_text, cost_line, cost_text, spaced, line_end_behind, is_covered, has_second_costs};
+ghost use Rattle.std.specs.Prelude.{◌≡◌, ◌<◌, ◌+◌, ◌^◌, ◌++◌, length, OnOk, not, ◌==◌};
+ghost use Rattle.std.specs.List.{list_all, list_any};
+ghost use Rattle.sel_answers.specs.Output.{answer_text, answers_text, told_text, cost_line, cost_text, spaced, line_end_behind, is_covered, has_second_costs};
 
-use crate::text::{put, put_number};
 use itoa::Buffer;
+use sel_base::text::{put, put_number};
 use sel_base::{NoMemory, Pair};
 use sel_grammar::Grammar;
 use sel_work::Answer;
@@ -89,6 +89,24 @@ pub fn put_answer(
     put_told(text, second, answer)
 }
 
+/// Puts the answers of trees that are numbered behind so many others.
+pub fn put_answers(
+    text: &mut Vec<u8>,
+    second: bool,
+    before: u32,
+    answers: &[Answer],
+) -> Result<(), NoMemory>
+    requires few { before + length answers.now < 2 ^ 32 }
+    ensures { OnOk result (text.new.items ≡ text.old.items ++ answers_text second (before + 1) answers.now) }
+{
+    let mut number = before as u64;
+    'answers: for answer in answers {
+        number += 1;
+        put_answer(text, second, number, answer)?;
+    }
+    Ok(())
+}
+
 /// The answer is a cover or a text.
 pub fn is_covered(answer: &Answer) -> bool
     ensures { result ≡ is_covered answer.now }
@@ -97,6 +115,13 @@ pub fn is_covered(answer: &Answer) -> bool
         Answer::Cover(_) | Answer::Text { .. } => true,
         Answer::NoCover | Answer::TooLong { .. } => false,
     }
+}
+
+/// Every answer is a cover or a text.
+pub fn are_covered(answers: &[Answer]) -> bool
+    ensures { result ≡ list_all is_covered answers.now }
+{
+    answers.iter().all(|answer| is_covered(answer))
 }
 
 /// Some rule has a second cost.

@@ -2,11 +2,12 @@
 #![tactic(auto)]
 
 mod answers;
+pub mod laws;
 mod output;
+mod report;
+mod summing;
 mod sums;
-pub mod text;
-mod told;
 
-pub use answers::has_second_costs;
+pub use answers::{are_covered, has_second_costs, put_answers};
 pub use output::{Output, grammar_output};
-pub use told::{Telling, Told};
+pub use summing::Summing;

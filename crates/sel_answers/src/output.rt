@@ -1,7 +1,7 @@
 // What a job writes.
 ghost use Rattle.std.specs.Prelude.{None, IfOk};
 ghost use Rattle.sel_words.specs.Words.{PrintGrammar};
-ghost use Rattle.sel_answers.specs.Output.{IsOutput};
+ghost use Rattle.sel_answers.specs.Output.{IsOutput, TableMarks};
 
 use sel_base::NoMemory;
 use sel_grammar::Grammar;
@@ -17,7 +17,7 @@ pub struct Output {
 
 /// The grammar in print.
 pub fn grammar_output(alloc: Global, grammar: &Grammar) -> Result<Output, NoMemory>
-    ensures { IfOk result (λ output. IsOutput PrintGrammar grammar.now None output.covered output.text.items) }
+    ensures { IfOk result (λ output. (marks : TableMarks) → IsOutput PrintGrammar grammar.now None marks output.covered output.text.items) }
 {
     let text = print_grammar(alloc, grammar)?;
     Ok(Output {

@@ -3,11 +3,11 @@ ghost use Rattle.std.specs.Prelude.{◌≡◌, ◌+◌, ◌+ℤ◌, ◌++◌, �
 ghost use Rattle.sel_work.specs.declared.answer.Answer.{Answer as AnyAnswer};
 ghost use Rattle.sel_forest.specs.Limits.{most_trees};
 ghost use Rattle.sel_answers.specs.Output.{told_line, summary_text};
-ghost use Rattle.sel_answers.specs.Telling.{AreWithin, AreSums, AreSmall};
+ghost use Rattle.sel_answers.specs.Summing.{AreWithin, AreSums, AreSmall};
 
 use crate::answers::put_cost;
-use crate::text::put;
 use itoa::Buffer;
+use sel_base::text::put;
 use sel_base::{NoMemory, Pair};
 use sel_work::Answer;
 
@@ -64,7 +64,8 @@ impl Sums {
     }
 }
 
-fn put_count(text: &mut Vec<u8>, word: &[u8], count: u64) -> Result<(), NoMemory>
+/// Puts a line of a word and a count.
+pub fn put_count(text: &mut Vec<u8>, word: &[u8], count: u64) -> Result<(), NoMemory>
     ensures { OnOk result (text.new.items ≡ text.old.items ++ told_line word.now (decimal count)) }
 {
     let mut buffer = Buffer::new();

@@ -1,6 +1,6 @@
 use Rattle.std.proofs.Common.{length, ap}
 use Rattle.sel_answers.specs.Output.{cost_of}
-use Rattle.sel_answers.proofs.Summing.{uncovered_of, uncovered_more, cost_more}
+use Rattle.sel_answers.proofs.MoreSums.{uncovered_of, uncovered_more, cost_more}
 use Rattle.sel_answers.proofs.sums.Sums.with.Goals as goal
 
 pub returns-in-NoCover : goal.returns-in-NoCover

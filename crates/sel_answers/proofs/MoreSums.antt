@@ -8,7 +8,7 @@ use Rattle.sel_grammar.specs.Costs.{Cost}
 use Rattle.sel_work.specs.declared.answer.Answer.{Answer}
 use Rattle.sel_work.specs.declared.answer.Answer.TheVariants.{NoCover}
 use Rattle.sel_answers.specs.Output.{is_uncovered, cost_of, sum_of_costs}
-use Rattle.sel_answers.specs.Telling.{AreWithin, AreSums}
+use Rattle.sel_answers.specs.Summing.{AreWithin, AreSums}
 use Rattle.sel_answers.specs.declared.sums.Sums.{Sums}
 
 first_more : (answers : List Answer) (answer : Answer) → (sum_of_costs (answers ++ answer ∷ [])).first ≡ (sum_of_costs answers).first + (cost_of answer).first
