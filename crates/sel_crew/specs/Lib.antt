@@ -1,0 +1,4 @@
+pub mod Answers
+pub mod Crews
+pub mod Options
+pub mod Reports
