@@ -8,10 +8,10 @@ use Rattle.sel_base.specs.Puts.{SinkTold, TellsWrite}
 use Rattle.sel_forest.specs.declared.forest.Forest.{Forest}
 use Rattle.sel_forest.specs.ForestText.{SpellsForest}
 use Rattle.sel_grammar.specs.declared.grammar.Grammar.{Grammar}
-use Rattle.sel_cli.specs.Ends.{IsFrontOf, IsFrontOfSome, TellsLine}
+use Rattle.sel_cli.specs.Ends.{IsFrontOf, IsFrontOfSome, TellsLine, WritesSome, finished}
 use Rattle.sel_cli.specs.Lines.{status_line}
 use Rattle.sel_cli.specs.Runs.{KeepsOutput}
-use Rattle.sel_cli.specs.Parts.{WritesSome, Writes, IsThis, StopsOver, WritesOver}
+use Rattle.sel_cli.specs.Parts.{Writes, Stops, EndsBatch, IsThis, StopsOver, WritesOver}
 use Rattle.sel_cli.specs.declared.status.Status.{Status}
 use Rattle.sel_cli.specs.declared.status.Status.TheVariants.{Done, Usage, ReadFault, TooBig, BadGrammar, BadForest, WriteFault, NoMemory, Uncovered}
 
@@ -49,6 +49,11 @@ module _ (Is : Bool → List ℕ → Type 0) (covered : Bool) (whole : List ℕ)
   -- what was written is an output that is so
   pub this_written : (before now : SinkTold) (status : Status) → Writes (IsThis covered whole) before now status → Writes Is before now status
   this_written before now status w = record { bytes = w.bytes; why = some_written before now w.bytes status w.why; written = w.written; keeps = w.keeps }
+
+  -- so it is with the output of some trees
+  pub this_batch : (before now : SinkTold) (result : Result Bool Status) → EndsBatch (IsThis covered whole) before now result → EndsBatch Is before now result
+  this_batch before now (Ok all) w = this_written before now (finished all) w
+  this_batch before now (Err status) s = record { writes = this_written before now status s.writes; not_done = s.not_done; not_uncovered = s.not_uncovered }
 
 -- the text spells this forest, and the output over it was written
 pub written_over : (Is : Forest → Bool → List ℕ → Type 0) (grammar : Grammar) (text : List ℕ) (forest : Forest) (before now : SinkTold) (status : Status)

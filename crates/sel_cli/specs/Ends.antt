@@ -7,7 +7,10 @@ use Rattle.sel_base.specs.Reads.{LastRead, ShelfTold}
 use Rattle.sel_grammar.specs.declared.grammar.Grammar.{Grammar}
 use Rattle.sel_forest.specs.declared.forest.Forest.{Forest}
 use Rattle.sel_words.specs.Words.{Job, Task, grammar_name, forest_name, last_name}
-use Rattle.sel_answers.specs.Output.{IsOutput}
+use Rattle.sel_crew.specs.declared.report.Report.{Report}
+use Rattle.sel_answers.specs.Output.{IsOutput, TableMarks}
+use Rattle.sel_answers.specs.Reported.{marks_of}
+use Rattle.sel_cli.specs.Reporting.{ReportsFor, nothing_reported}
 use Rattle.sel_cli.specs.Texts.{Request, IsTold, MayBe, AcceptsGrammar, Accepts, IsTooLong, RefusesGrammar, RefusesForest, IsWhole}
 use Rattle.sel_cli.specs.Lines.{status_line}
 use Rattle.sel_cli.specs.declared.status.Status.{Status}
@@ -49,22 +52,27 @@ IsFrontOf front whole = (rest : List ℕ) × (whole ≡ front ++ rest)
 abbrev pub IsFrontOfSome : (Bool → List ℕ → Type 0) → List ℕ → Type 0
 IsFrontOfSome Is bytes = (covered : Bool) × (whole : List ℕ) × Is covered whole × IsFrontOf bytes whole
 
--- the bytes are a front of the output of a task whose texts are accepted
-abbrev pub IsFrontOfOutput : Request → List ℕ → Type 0
-IsFrontOfOutput request bytes =
-    (task : Task) × (grammar : Grammar) × (forest : Option Forest) × Accepts MayBe request task grammar forest × IsFrontOfSome (IsOutput task.job grammar forest) bytes
+-- how the writing of an output that is so ended, of which these bytes were taken: all, a front, or none
+abbrev pub WritesSome : (Bool → List ℕ → Type 0) → SinkTold → SinkTold → List ℕ → Status → Type 0
+WritesSome Is before now bytes WriteFault = Rose before.faults now.faults × IsFrontOfSome Is bytes
+WritesSome Is before now bytes NoMemory = (bytes ≡ []) ⊎ IsFrontOfSome Is bytes
+WritesSome Is before now bytes Uncovered = Is false bytes
+WritesSome Is before now bytes Done = Is true bytes
+WritesSome Is before now bytes _ = ⊥
 
--- how the writing of an accepted task's output ended
-abbrev pub WritesFor : Request → SinkTold → SinkTold → List ℕ → Status → Type 0
-WritesFor request before now bytes WriteFault = Rose before.faults now.faults × IsFrontOfOutput request bytes
-WritesFor request before now bytes NoMemory = IsFrontOfOutput request bytes
-WritesFor request before now bytes Uncovered = IsWhole MayBe request false bytes
-WritesFor request before now bytes Done = IsWhole MayBe request true bytes
-WritesFor request before now bytes _ = ⊥
+-- A task whose texts are accepted was done so far: of its output, with the marks that are reported, these bytes were taken, and the report tells of its trees.
+pub record DoesTask (request : Request) (report : Report) (before now : SinkTold) (bytes : List ℕ) (status : Status) : Type 0 where
+  pub task : Task
+  pub grammar : Grammar
+  pub forest : Option Forest
+  pub accepts : Accepts MayBe request task grammar forest
+  pub writes : WritesSome (IsOutput task.job grammar forest (marks_of report)) before now bytes status
+  pub reports : ReportsFor task.settings task.job grammar forest report bytes status
 
 -- why the call ended with this status: it stopped before it wrote, or it did an accepted task and wrote these bytes
-abbrev pub EndsFor : Request → ShelfTold → ShelfTold → SinkTold → SinkTold → List ℕ → List ℕ → Status → Type 0
-EndsFor request shelf shelf_now out out_now name bytes status = ((bytes ≡ []) × StopsFor request shelf shelf_now name status) ⊎ WritesFor request out out_now bytes status
+abbrev pub EndsFor : Request → Report → ShelfTold → ShelfTold → SinkTold → SinkTold → List ℕ → List ℕ → Status → Type 0
+EndsFor request report shelf shelf_now out out_now name bytes status =
+    ((bytes ≡ []) × (report ≡ nothing_reported) × StopsFor request shelf shelf_now name status) ⊎ DoesTask request report out out_now bytes status
 
 -- what `err` took is a front of the line of this status, which speaks of the text of this name
 pub record TellsLine (name : List ℕ) (status : Status) (before now : SinkTold) : Type 0 where
@@ -72,11 +80,11 @@ pub record TellsLine (name : List ℕ) (status : Status) (before now : SinkTold)
   pub is_front : IsFrontOf line (status_line name status)
   pub told : now.taken ≡ append_known before.taken line
 
--- Why the call ended so, the bytes that `out` took, and what `err` took of the status's line.
-pub record Ending (request : Request) (shelf shelf_now : ShelfTold) (out out_now err err_now : SinkTold) (status : Status) : Type 0 where
+-- Why the call ended so, with what is reported, the bytes that `out` took, and what `err` took of the status's line.
+pub record Ending (request : Request) (report : Report) (shelf shelf_now : ShelfTold) (out out_now err err_now : SinkTold) (status : Status) : Type 0 where
   pub name : List ℕ
   pub bytes : List ℕ
-  pub why : EndsFor request shelf shelf_now out out_now name bytes status
+  pub why : EndsFor request report shelf shelf_now out out_now name bytes status
   pub written : out_now.taken ≡ append_known out.taken bytes
   pub line : TellsLine name status err err_now
 
@@ -86,8 +94,8 @@ Decides request Usage = request.wanted ≡ None
 Decides request TooBig = (name : List ℕ) × (limit : ℕ) × IsTooLong IsTold request name limit
 Decides request (BadGrammar fault) = (name : List ℕ) × RefusesGrammar IsTold request name fault
 Decides request (BadForest fault) = (name : List ℕ) × RefusesForest IsTold request name fault
-Decides request Done = (bytes : List ℕ) × IsWhole IsTold request true bytes
-Decides request Uncovered = (bytes : List ℕ) × IsWhole IsTold request false bytes
+Decides request Done = (marks : TableMarks) × (bytes : List ℕ) × IsWhole IsTold request marks true bytes
+Decides request Uncovered = (marks : TableMarks) × (bytes : List ℕ) × IsWhole IsTold request marks false bytes
 Decides request _ = ⊥
 
 -- want of memory and the faults of the outside may come in the place of what the texts decide
@@ -107,17 +115,17 @@ finished true = Done
 finished false = Uncovered
 
 -- all of the job's output was taken, and the status tells whether every tree is covered
-pub record IsAnswered (job : Job) (grammar : Grammar) (forest : Option Forest) (before now : SinkTold) (status : Status) : Type 0 where
+pub record IsAnswered (job : Job) (grammar : Grammar) (forest : Option Forest) (marks : TableMarks) (before now : SinkTold) (status : Status) : Type 0 where
   pub covered : Bool
   pub bytes : List ℕ
-  pub output : IsOutput job grammar forest covered bytes
+  pub output : IsOutput job grammar forest marks covered bytes
   pub written : now.taken ≡ append_known before.taken bytes
   pub finishes : status ≡ finished covered
 
 -- Where the shelf tells texts that are accepted, and no count of faults rose, the task was done to the end, or there was no memory.
-abbrev pub IsComplete : Request → ShelfTold → ShelfTold → SinkTold → SinkTold → Status → Type 0
-IsComplete request shelf shelf_now out out_now status = (task : Task) (grammar : Grammar) (forest : Option Forest) → Accepts IsTold request task grammar forest
-    → ¬ Rose shelf.faults shelf_now.faults → ¬ Rose out.faults out_now.faults → (status ≡ NoMemory) ⊎ IsAnswered task.job grammar forest out out_now status
+abbrev pub IsComplete : Request → TableMarks → ShelfTold → ShelfTold → SinkTold → SinkTold → Status → Type 0
+IsComplete request marks shelf shelf_now out out_now status = (task : Task) (grammar : Grammar) (forest : Option Forest) → Accepts IsTold request task grammar forest
+    → ¬ Rose shelf.faults shelf_now.faults → ¬ Rose out.faults out_now.faults → (status ≡ NoMemory) ⊎ IsAnswered task.job grammar forest marks out out_now status
 
 -- the last read was of the text of this name, and didn't fail
 abbrev pub WasRead : LastRead → List ℕ → Type 0

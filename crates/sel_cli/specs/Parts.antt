@@ -1,5 +1,5 @@
 -- How the parts of the top call end. Of a shelf and of a sink stands first what was told before the part, and then what is told after it.
-use Rattle.std.specs.Prelude.{◌≡◌, ℕ, ◌<◌, ◌≤◌, ◌⊎◌, Bool, true, false, List, [], length, Option, IfSome, Result, IfErr, IsErrOf, OnOk}
+use Rattle.std.specs.Prelude.{◌≡◌, ◌≢◌, ℕ, ◌<◌, ◌≤◌, ◌⊎◌, Bool, true, false, List, [], length, Option, Some, IfSome, Result, Ok, Err, IfErr, IsErrOf, OnOk}
 use Rattle.std.specs.Io.KnownBytes.{append_known}
 use Rattle.sel_base.specs.Causes.{Rose}
 use Rattle.sel_base.specs.Puts.{SinkTold}
@@ -8,11 +8,18 @@ use Rattle.sel_grammar.specs.declared.grammar.Grammar.{Grammar}
 use Rattle.sel_grammar.specs.declared.refusal.GrammarRefusal.{GrammarRefusal}
 use Rattle.sel_grammar.specs.declared.refusal.GrammarRefusal.TheVariants as refusal
 use Rattle.sel_forest.specs.declared.forest.Forest.{Forest}
+use Rattle.sel_forest.specs.declared.forest.Tree.{Tree}
 use Rattle.sel_forest.specs.ForestText.{SpellsForest, IsForestFault}
 use Rattle.sel_forest.specs.Printed.{IsPrinted}
-use Rattle.sel_words.specs.Words.{Task}
+use Rattle.sel_work.specs.declared.answer.Goal.{Goal}
+use Rattle.sel_words.specs.Words.{Job, Task}
 use Rattle.sel_cli.specs.Texts.{IsRefusedGrammar, request_of}
-use Rattle.sel_cli.specs.Ends.{IsFrontOfSome, EndsFor, WasRead, ReadsFor}
+use Rattle.sel_crew.specs.declared.report.Report.{Report}
+use Rattle.sel_words.specs.declared.settings.Settings.{Settings}
+use Rattle.sel_answers.specs.Output.{IsOutput, AreAnswered, AreSummedUp}
+use Rattle.sel_answers.specs.Reported.{marks_of}
+use Rattle.sel_cli.specs.Ends.{WritesSome, finished, EndsFor, WasRead, ReadsFor}
+use Rattle.sel_cli.specs.Reporting.{TellsOf, IsUnfinished, ReportsFor, nothing_reported}
 use Rattle.sel_cli.specs.Runs.{KeepsShelf, KeepsOutput}
 use Rattle.sel_cli.specs.declared.status.Status.{Status}
 use Rattle.sel_cli.specs.declared.status.Status.TheVariants.{Done, ReadFault, TooBig, BadForest, WriteFault, NoMemory, Uncovered}
@@ -48,20 +55,23 @@ StopsOver grammar text _ = ⊥
 
 -- ---- outputs
 
--- how the writing of an output that is so ended, of which these bytes were taken: all, a front, or none
-abbrev pub WritesSome : (Bool → List ℕ → Type 0) → SinkTold → SinkTold → List ℕ → Status → Type 0
-WritesSome Is before now bytes WriteFault = Rose before.faults now.faults × IsFrontOfSome Is bytes
-WritesSome Is before now bytes NoMemory = (bytes ≡ []) ⊎ IsFrontOfSome Is bytes
-WritesSome Is before now bytes Uncovered = Is false bytes
-WritesSome Is before now bytes Done = Is true bytes
-WritesSome Is before now bytes _ = ⊥
-
 -- An output that is so was written, at once or piece by piece, and the writing ended with this status.
 pub record Writes (Is : Bool → List ℕ → Type 0) (before now : SinkTold) (status : Status) : Type 0 where
   pub bytes : List ℕ
   pub why : WritesSome Is before now bytes status
   pub written : now.taken ≡ append_known before.taken bytes
   pub keeps : KeepsOutput before now status
+
+-- the writing stopped, and the output isn't done
+pub record Stops (Is : Bool → List ℕ → Type 0) (before now : SinkTold) (status : Status) : Type 0 where
+  pub writes : Writes Is before now status
+  pub not_done : status ≢ Done
+  pub not_uncovered : status ≢ Uncovered
+
+-- How the output of some trees was written: all of it, and it tells whether every tree is covered, or so far.
+abbrev pub EndsBatch : (Bool → List ℕ → Type 0) → SinkTold → SinkTold → Result Bool Status → Type 0
+EndsBatch Is before now (Ok covered) = Writes Is before now (finished covered)
+EndsBatch Is before now (Err status) = Stops Is before now status
 
 -- the output is this
 abbrev pub IsThis : Bool → List ℕ → Bool → List ℕ → Type 0
@@ -71,6 +81,33 @@ IsThis whole_covered whole covered bytes = (covered ≡ whole_covered) × (bytes
 abbrev pub IsForestInPrint : Grammar → Forest → Bool → List ℕ → Type 0
 IsForestInPrint grammar forest covered bytes = IsPrinted grammar forest bytes × (covered ≡ true)
 
+-- A job over an accepted grammar and, for most, a forest was done so far, and this is reported.
+pub record DoesJob (settings : Settings) (job : Job) (grammar : Grammar) (forest : Option Forest) (before now : SinkTold) (status : Status) (report : Report) : Type 0 where
+  pub writes : Writes (IsOutput job grammar forest (marks_of report)) before now status
+  pub reports : ReportsFor settings job grammar forest report writes.bytes status
+
+-- The sums of the trees were written so far, and behind them what is told of their table, and this is reported.
+pub record SumsUpJob (settings : Settings) (grammar : Grammar) (trees : List Tree) (before now : SinkTold) (status : Status) (report : Report) : Type 0 where
+  pub writes : Writes (AreSummedUp grammar (marks_of report) trees) before now status
+  pub reports : ((report ≡ nothing_reported) × (writes.bytes ≡ [])) ⊎ TellsOf settings grammar trees report
+
+-- The text spells no forest, and nothing was done, or it spells one, and the job was done so far.
+abbrev pub DoesJobOver : Settings → Job → Grammar → List ℕ → SinkTold → SinkTold → Status → Report → Type 0
+DoesJobOver settings job grammar text before now status report =
+    (StopsOver grammar text status × (now ≡ before) × (report ≡ nothing_reported))
+    ⊎ ((forest : Forest) × SpellsForest grammar text forest × DoesJob settings job grammar (Some forest) before now status report)
+
+-- The answers of the trees were written so far, and this is reported.
+pub record AnswersJob (settings : Settings) (grammar : Grammar) (goal : Goal) (trees : List Tree) (before now : SinkTold) (status : Status) (report : Report) : Type 0 where
+  pub writes : Writes (AreAnswered grammar goal 0 trees) before now status
+  pub reports : ((report ≡ nothing_reported) × IsUnfinished status) ⊎ TellsOf settings grammar trees report
+
+-- The text spells no forest, and nothing was done, or it spells one, and its answers were written so far.
+abbrev pub AnswersOver : Settings → Grammar → Goal → List ℕ → SinkTold → SinkTold → Status → Report → Type 0
+AnswersOver settings grammar goal text before now status report =
+    (StopsOver grammar text status × (now ≡ before) × (report ≡ nothing_reported))
+    ⊎ ((forest : Forest) × SpellsForest grammar text forest × AnswersJob settings grammar goal forest.trees before now status report)
+
 -- The text spells no forest, and nothing was written, or it spells one, and an output that is so over it was written.
 abbrev pub WritesOver : (Forest → Bool → List ℕ → Type 0) → Grammar → List ℕ → SinkTold → SinkTold → Status → Type 0
 WritesOver Is grammar text before now status =
@@ -78,10 +115,10 @@ WritesOver Is grammar text before now status =
 
 -- ---- the whole
 
--- How a call with these words ends with this status, which speaks of the text of this name, and what it does to the shelf and the output.
-pub record Serves (wanted : Option Task) (shelf shelf_now : ShelfTold) (out out_now : SinkTold) (name : List ℕ) (status : Status) : Type 0 where
+-- How a call with these words ends with this status, which speaks of the text of this name, what is reported, and what it does to the shelf and the output.
+pub record Serves (wanted : Option Task) (shelf shelf_now : ShelfTold) (out out_now : SinkTold) (name : List ℕ) (status : Status) (report : Report) : Type 0 where
   pub bytes : List ℕ
-  pub why : EndsFor (request_of wanted shelf) shelf shelf_now out out_now name bytes status
+  pub why : EndsFor (request_of wanted shelf) report shelf shelf_now out out_now name bytes status
   pub written : out_now.taken ≡ append_known out.taken bytes
   pub reads : KeepsShelf wanted shelf shelf_now status
   pub writes : KeepsOutput out out_now status

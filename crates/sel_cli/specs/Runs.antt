@@ -3,6 +3,8 @@ use Rattle.std.specs.Prelude.{◌≡◌, ◌≢◌, ◌≤◌, Option}
 use Rattle.sel_base.specs.Puts.{SinkTold}
 use Rattle.sel_base.specs.Reads.{ShelfTold}
 use Rattle.sel_words.specs.Words.{Task}
+use Rattle.sel_crew.specs.declared.report.Report.{Report}
+use Rattle.sel_answers.specs.Reported.{marks_of}
 use Rattle.sel_cli.specs.Texts.{request_of}
 use Rattle.sel_cli.specs.Ends.{Ending, ComesAsDecided, IsComplete, ReadsFor}
 use Rattle.sel_cli.specs.declared.status.Status.{Status}
@@ -21,11 +23,11 @@ pub record KeepsOutput (before now : SinkTold) (status : Status) : Type 0 where
   pub later : before.faults ≤ now.faults
   pub quiet : (status ≢ WriteFault) → now.faults ≡ before.faults
 
--- How a run with these words goes that ends with this status: all that is promised of the top call, but for its report.
-pub record Runs (wanted : Option Task) (shelf shelf_now : ShelfTold) (out out_now err err_now : SinkTold) (status : Status) : Type 0 where
-  pub ends : Ending (request_of wanted shelf) shelf shelf_now out out_now err err_now status
+-- How a run with these words goes that ends with this status and this report: all that is promised of the top call.
+pub record Runs (wanted : Option Task) (report : Report) (shelf shelf_now : ShelfTold) (out out_now err err_now : SinkTold) (status : Status) : Type 0 where
+  pub ends : Ending (request_of wanted shelf) report shelf shelf_now out out_now err err_now status
   pub exactly : ComesAsDecided (request_of wanted shelf) status
-  pub complete : IsComplete (request_of wanted shelf) shelf shelf_now out out_now status
+  pub complete : IsComplete (request_of wanted shelf) (marks_of report) shelf shelf_now out out_now status
   pub reads : KeepsShelf wanted shelf shelf_now status
   pub writes : KeepsOutput out out_now status
   pub tells : err.faults ≤ err_now.faults

@@ -9,7 +9,7 @@ use Rattle.sel_forest.specs.declared.forest.Forest.{Forest}
 use Rattle.sel_forest.specs.declared.refusal.ForestFault.{ForestFault}
 use Rattle.sel_forest.specs.ForestText.{SpellsForest, IsForestFault}
 use Rattle.sel_words.specs.Words.{Task, GrammarSource, Held, Shipped, grammar_name, forest_name}
-use Rattle.sel_answers.specs.Output.{IsOutput}
+use Rattle.sel_answers.specs.Output.{IsOutput, TableMarks}
 
 -- the greatest length of a grammar's text, in bytes
 abbrev pub grammar_limit : ℕ
@@ -101,7 +101,7 @@ pub record RefusesForest (Is : Option (List ℕ) → List ℕ → Type 0) (reque
   pub within : length text ≤ forest_limit
   pub refused : IsForestFault grammar text fault
 
--- the bytes are the whole output of a task whose texts are accepted
-abbrev pub IsWhole : (Option (List ℕ) → List ℕ → Type 0) → Request → Bool → List ℕ → Type 0
-IsWhole Is request covered bytes =
-    (task : Task) × (grammar : Grammar) × (forest : Option Forest) × Accepts Is request task grammar forest × IsOutput task.job grammar forest covered bytes
+-- the bytes are the whole output of a task whose texts are accepted, with these marks
+abbrev pub IsWhole : (Option (List ℕ) → List ℕ → Type 0) → Request → TableMarks → Bool → List ℕ → Type 0
+IsWhole Is request marks covered bytes =
+    (task : Task) × (grammar : Grammar) × (forest : Option Forest) × Accepts Is request task grammar forest × IsOutput task.job grammar forest marks covered bytes

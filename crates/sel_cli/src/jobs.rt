@@ -4,32 +4,68 @@ ghost use Rattle.sel_words.specs.Settings.{AreWithinBounds};
 ghost use Rattle.sel_words.specs.Names.{task_for, source_for, IsShort};
 ghost use Rattle.sel_cli.specs.Ends.{NeedsNoText};
 ghost use Rattle.sel_cli.specs.Parts.{Serves};
+ghost use Rattle.sel_cli.specs.Reporting.{nothing_reported};
 
-mod answers;
+mod crew;
+mod each_tree;
 mod make;
 mod over_forest;
 mod print_forest;
 mod print_grammar;
+mod reported;
+mod summary;
 mod writing;
 
 use crate::jobs::make::make;
 use crate::jobs::over_forest::serve_forest;
 use crate::jobs::print_grammar::print_grammar;
+use crate::jobs::reported::Reported;
 use crate::status::Status;
 use crate::texts::accept_grammar;
 use sel_base::{Gate, Shelf, Sink};
+use sel_crew::Report;
 use sel_words::{Command, Job};
 use std::alloc::Global;
+use std::thread::Threads;
 
-/// How a run ended, and the name of the text of which its status speaks.
-#[derive(Clone, Copy)]
+/// How a run ended, the name of the text of which its status speaks, and what is reported of its trees.
+#[derive(Drop)]
 pub struct Ended<'a> {
     pub status: Status,
     pub name: &'a str,
+    pub report: Report,
+}
+
+impl<'a> Ended<'a> {
+    /// A run that ended before any tree was answered.
+    pub fn without(status: Status, name: &'a str) -> Ended<'a>
+        ensures status { result.status ≡ status }
+        ensures name { result.name.now ≡ name.now }
+        ensures report { result.report ≡ nothing_reported }
+    {
+        Reported::without(status).of(name)
+    }
+}
+
+impl Reported {
+    /// The end of a run with this job. Its status speaks of the text of this name.
+    fn of(self, name: &str) -> Ended<'_>
+        ensures status { result.status ≡ self.status }
+        ensures name { result.name.now ≡ name.now }
+        ensures report { result.report ≡ self.report }
+    {
+        let Reported { status, report } = self;
+        Ended {
+            status,
+            name,
+            report,
+        }
+    }
 }
 
 /// Judges the grammar, and does the job with it.
-pub fn serve<'a, S: Shelf, K: Sink, G: Gate>(
+pub fn serve<'a, Rt: Threads + Sync, S: Shelf, K: Sink, G: Gate>(
+    rt: &Rt,
     alloc: Global,
     command: Command<'a>,
     shelf: &mut S,
@@ -38,25 +74,19 @@ pub fn serve<'a, S: Shelf, K: Sink, G: Gate>(
 ) -> Ended<'a>
     requires settings { AreWithinBounds command.settings }
     requires short { IsShort (source_for command.source) }
-    ensures served { Serves (Some (task_for command.entry)) (S.told shelf.old) (S.told shelf.new) (K.told out.old) (K.told out.new) result.name.now result.status }
+    ensures served { Serves (Some (task_for command.entry)) (S.told shelf.old) (S.told shelf.new) (K.told out.old) (K.told out.new) result.name.now result.status result.report }
     ensures untouched { NeedsNoText (Some (task_for command.entry)) → shelf.new ≡ shelf.old }
 {
     let name = command.grammar;
     let accepted = match accept_grammar(alloc, shelf, command) {
         Ok(accepted) => accepted,
-        Err(status) => return Ended { status, name },
+        Err(status) => return Ended::without(status, name),
     };
     match command.job {
-        Job::PrintGrammar => Ended {
-            status: print_grammar(alloc, &accepted.grammar, out),
-            name,
-        },
-        Job::Make => Ended {
-            status: make(alloc, &accepted, command.settings, out, gate),
-            name,
-        },
+        Job::PrintGrammar => Ended::without(print_grammar(alloc, &accepted.grammar, out), name),
+        Job::Make => make(rt, alloc, &accepted, command.settings, out, gate).of(name),
         Job::OverForest(mode, name) => {
-            serve_forest(alloc, command, mode, name, &accepted, shelf, out, gate)
+            serve_forest(rt, alloc, command, mode, name, &accepted, shelf, out, gate)
         }
     }
 }

@@ -14,7 +14,7 @@ use std::thread::Threads;
 
 /// Does what the words behind the program's name ask for, where there was memory to collect them, and gives the
 /// exit status.
-pub fn run_program<S: Shelf, K: Sink, E: Sink, G: Gate, Rt: Threads>(
+pub fn run_program<S: Shelf, K: Sink, E: Sink, G: Gate, Rt: Threads + Sync>(
     rt: &Rt,
     alloc: Global,
     words: Result<Vec<String>, NoMemory>,

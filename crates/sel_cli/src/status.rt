@@ -1,6 +1,7 @@
 // How a run ends.
 ghost use Rattle.std.specs.Prelude.{◌≡◌};
 ghost use Rattle.sel_cli.specs.Code.{code_of};
+ghost use Rattle.sel_cli.specs.Ends.{finished};
 
 use sel_forest::ForestFault;
 use sel_grammar::GrammarFault;
@@ -41,5 +42,16 @@ impl Status {
             Status::NoMemory => 7,
             Status::Uncovered => 8,
         }
+    }
+}
+
+/// The status of a job that is done, by whether every tree is covered.
+pub fn finished(covered: bool) -> Status
+    ensures { result ≡ finished covered }
+{
+    if covered {
+        Status::Done
+    } else {
+        Status::Uncovered
     }
 }

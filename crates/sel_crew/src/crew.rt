@@ -10,6 +10,7 @@ ghost use Rattle.sel_crew.specs.Options.{AreLawful};
 use crate::options::Options;
 use crate::place::Place;
 use sel_base::{Gate, List, NoMemory};
+use sel_closing::laws::parts_ask_only;
 use sel_forest::Tree;
 use sel_grammar::Grammar;
 use sel_normal::Normal;
@@ -72,6 +73,7 @@ impl<'c> Crew<'c> {
         ensures answered { OnOk result (KeepsMore trees.now self.old self.new) }
         ensures counted { OnOk result (CountsMore trees.now self.old self.new) }
     {
+        parts_ask_only();
         Err(NoMemory)
     }
 }

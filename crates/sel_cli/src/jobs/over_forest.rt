@@ -2,25 +2,27 @@
 ghost use Rattle.std.specs.Prelude.{◌≡◌, ◌≤◌, Some, List, ℕ, length, IfOk, IfErr};
 ghost use Rattle.sel_forest.specs.ForestText.{SpellsForest};
 ghost use Rattle.sel_forest.specs.Valid.{IsValidForest};
-ghost use Rattle.sel_forest.specs.declared.forest.Forest.{Forest as AnyForest};
 ghost use Rattle.sel_items.specs.Laws.{IsAcceptedForm};
 ghost use Rattle.sel_words.specs.Settings.{AreWithinBounds};
 ghost use Rattle.sel_words.specs.Names.{task_for};
 ghost use Rattle.sel_words.specs.Words.{OverForest};
-ghost use Rattle.sel_answers.specs.Output.{AreAnswered, IsOutput};
+ghost use Rattle.sel_words.specs.declared.words.Mode.TheVariants.{Summary as summary};
 ghost use Rattle.sel_cli.specs.Texts.{MayBe, AcceptsGrammar, forest_limit, request_of};
-ghost use Rattle.sel_cli.specs.Parts.{StopsOver, WritesOver, Serves};
+ghost use Rattle.sel_cli.specs.Parts.{StopsOver, AnswersOver, DoesJobOver, Serves};
 
 use crate::jobs::Ended;
-use crate::jobs::answers::answer;
+use crate::jobs::each_tree::answer_each;
 use crate::jobs::print_forest::print_forest;
+use crate::jobs::reported::Reported;
+use crate::jobs::summary::sum_forest;
 use crate::status::Status;
 use crate::texts::{Accepted, fetch};
-use sel_answers::Told;
 use sel_base::{Gate, Shelf, Sink};
 use sel_forest::{Forest, ForestRefusal, read_forest};
 use sel_words::{Command, Mode, Settings};
+use sel_work::Goal;
 use std::alloc::Global;
+use std::thread::Threads;
 
 /// The greatest length of a forest's text, in bytes.
 const FOREST_LIMIT: usize = 67_108_864;
@@ -40,29 +42,52 @@ fn forest_in(alloc: Global, accepted: &Accepted, text: Vec<u8>) -> Result<Forest
     }
 }
 
-// Answers the trees of the forest that the text spells.
-fn answer_in<K: Sink, G: Gate>(
+// Answers the trees of the forest that the text spells, one by one.
+fn answer_in<Rt: Threads + Sync, K: Sink, G: Gate>(
+    rt: &Rt,
     alloc: Global,
     accepted: &Accepted,
     settings: Settings,
     text: Vec<u8>,
-    told: Told,
+    goal: Goal,
     out: &mut K,
     gate: &G,
-) -> Status
+) -> Reported
     requires form { IsAcceptedForm accepted.now.grammar accepted.now.normal }
     requires settings { AreWithinBounds settings }
     requires short { length text.items ≤ forest_limit }
-    ensures done { WritesOver (λ (forest : AnyForest). AreAnswered accepted.now.grammar told forest.trees) accepted.now.grammar text.items (K.told out.old) (K.told out.new) result }
+    ensures { AnswersOver settings accepted.now.grammar goal text.items (K.told out.old) (K.told out.new) result.status result.report }
 {
     match forest_in(alloc, accepted, text) {
-        Ok(forest) => answer(alloc, accepted, settings, &forest, told, out, gate),
-        Err(status) => status,
+        Ok(forest) => answer_each(rt, alloc, accepted, settings, &forest, goal, out, gate),
+        Err(status) => Reported::without(status),
+    }
+}
+
+// Sums up the trees of the forest that the text spells.
+fn sum_in<Rt: Threads + Sync, K: Sink, G: Gate>(
+    rt: &Rt,
+    alloc: Global,
+    accepted: &Accepted,
+    settings: Settings,
+    text: Vec<u8>,
+    out: &mut K,
+    gate: &G,
+) -> Reported
+    requires form { IsAcceptedForm accepted.now.grammar accepted.now.normal }
+    requires settings { AreWithinBounds settings }
+    requires short { length text.items ≤ forest_limit }
+    ensures { (name : List ℕ) → DoesJobOver settings (OverForest summary name) accepted.now.grammar text.items (K.told out.old) (K.told out.new) result.status result.report }
+{
+    match forest_in(alloc, accepted, text) {
+        Ok(forest) => sum_forest(rt, alloc, accepted, settings, &forest, out, gate),
+        Err(status) => Reported::without(status),
     }
 }
 
 // Does the job with what the text spells.
-fn serve_text<K: Sink, G: Gate>(
+fn serve_text<Rt: Threads + Sync, K: Sink, G: Gate>(
+    rt: &Rt,
     alloc: Global,
     mode: Mode,
     accepted: &Accepted,
@@ -70,22 +95,23 @@ fn serve_text<K: Sink, G: Gate>(
     text: Vec<u8>,
     out: &mut K,
     gate: &G,
-) -> Status
+) -> Reported
     requires form { IsAcceptedForm accepted.now.grammar accepted.now.normal }
     requires settings { AreWithinBounds settings }
     requires short { length text.items ≤ forest_limit }
-    ensures done { (name : List ℕ) → WritesOver (λ forest. IsOutput (OverForest mode name) accepted.now.grammar (Some forest)) accepted.now.grammar text.items (K.told out.old) (K.told out.new) result }
+    ensures { (name : List ℕ) → DoesJobOver settings (OverForest mode name) accepted.now.grammar text.items (K.told out.old) (K.told out.new) result.status result.report }
 {
     match mode {
-        Mode::Cover => answer_in(alloc, accepted, settings, text, Told::Covers, out, gate),
-        Mode::Select => answer_in(alloc, accepted, settings, text, Told::Texts, out, gate),
-        Mode::Summary => answer_in(alloc, accepted, settings, text, Told::Summary, out, gate),
-        Mode::Print => print_forest(alloc, accepted, text, out),
+        Mode::Cover => answer_in(rt, alloc, accepted, settings, text, Goal::Cover, out, gate),
+        Mode::Select => answer_in(rt, alloc, accepted, settings, text, Goal::Text, out, gate),
+        Mode::Summary => sum_in(rt, alloc, accepted, settings, text, out, gate),
+        Mode::Print => Reported::without(print_forest(alloc, accepted, text, out)),
     }
 }
 
 /// Reads the forest of this name under the accepted grammar, and does the job with it.
-pub fn serve_forest<'a, S: Shelf, K: Sink, G: Gate>(
+pub fn serve_forest<'a, Rt: Threads + Sync, S: Shelf, K: Sink, G: Gate>(
+    rt: &Rt,
     alloc: Global,
     command: Command<'a>,
     mode: Mode,
@@ -99,13 +125,13 @@ pub fn serve_forest<'a, S: Shelf, K: Sink, G: Gate>(
     requires form { IsAcceptedForm accepted.now.grammar accepted.now.normal }
     requires settings { AreWithinBounds command.settings }
     requires job { (task_for command).job ≡ OverForest mode name.now }
-    ensures served { Serves (Some (task_for command.entry)) (S.told shelf.old) (S.told shelf.new) (K.told out.old) (K.told out.new) result.name.now result.status }
+    ensures served { Serves (Some (task_for command.entry)) (S.told shelf.old) (S.told shelf.new) (K.told out.old) (K.told out.new) result.name.now result.status result.report }
 {
     match fetch(alloc, shelf, name, FOREST_LIMIT) {
-        Ok(text) => Ended {
-            status: serve_text(alloc, mode, accepted, command.settings, text, out, gate),
-            name,
-        },
-        Err(status) => Ended { status, name },
+        Ok(text) => {
+            let settings = command.settings;
+            serve_text(rt, alloc, mode, accepted, settings, text, out, gate).of(name)
+        }
+        Err(status) => Ended::without(status, name),
     }
 }

@@ -1,7 +1,7 @@
 // A job's output, which is made whole, is written.
 ghost use Rattle.sel_cli.specs.Parts.{Writes, IsThis};
 
-use crate::status::Status;
+use crate::status::{Status, finished};
 use sel_answers::Output;
 use sel_base::{Sink, SinkFault, write_all_of};
 
@@ -10,13 +10,7 @@ pub fn write_output<K: Sink>(out: &mut K, output: &Output) -> Status
     ensures done { Writes (IsThis output.now.covered output.now.text.items) (K.told out.old) (K.told out.new) result }
 {
     match write_all_of(out, &output.text) {
-        Ok(()) => {
-            if output.covered {
-                Status::Done
-            } else {
-                Status::Uncovered
-            }
-        }
+        Ok(()) => finished(output.covered),
         Err(stop) => match stop.cause {
             SinkFault::Failed => Status::WriteFault,
             SinkFault::NoMemory => Status::NoMemory,

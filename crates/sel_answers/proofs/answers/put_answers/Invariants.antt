@@ -5,5 +5,5 @@ use Rattle.sel_answers.proofs.answers.put_answers.Given as goal
 abbrev pub invariant-answers : goal.invariant-answers
 invariant-answers l = record {
   behind : l.number ≡ l.fn.before + l.answer-index;
-  rest : l.text.items ++ answers_text l.fn.second (l.number + 1) (drop l.answer-index l.fn.answers.now) ≡ l.initial.text.items ++ answers_text l.fn.second (l.fn.before + 1) l.fn.answers.now;
+  rest : l.text.items ++ answers_text l.fn.second (l.number + 1) (drop l.answer-index l.fn.answers) ≡ l.initial.text.items ++ answers_text l.fn.second (l.fn.before + 1) l.fn.answers;
 }

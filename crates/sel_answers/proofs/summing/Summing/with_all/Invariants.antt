@@ -6,5 +6,5 @@ use Rattle.sel_answers.proofs.summing.Summing.with_all.Given as goal
 abbrev pub invariant-more : goal.invariant-more
 invariant-more l = record {
   count : l.sums.count ≡ l.initial.sums.count + l.answer-index;
-  summed : (answers : List Answer) → SumsUp l.initial.sums answers → SumsUp l.sums (answers ++ take l.answer-index l.fn.more.now);
+  summed : (answers : List Answer) → SumsUp l.initial.sums answers → SumsUp l.sums (answers ++ take l.answer-index l.fn.more);
 }

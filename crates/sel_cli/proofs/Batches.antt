@@ -1,0 +1,162 @@
+-- The answers of batches, one behind the other.
+use Rattle.std.proofs.Common.{◌≡◌, ◌≢◌, ℕ, ◌+◌, Bool, true, false, ◌&&◌, List, [], ◌∷◌, ◌++◌, length, Option, Some, None, refl, sym, ap, subst, ◌∙◌, inl, inr, ◌⊎◌, arith, append_assoc}
+use Rattle.std.specs.List.{list_all}
+use Rattle.std.specs.Io.KnownBytes.{append_known}
+use Rattle.std.proofs.lemmas.List.{append-nil}
+use Rattle.std.proofs.lemmas.List.Folds.{list_all-append}
+use Rattle.sel_base.specs.Causes.{Rose}
+use Rattle.sel_base.specs.Puts.{SinkTold}
+use Rattle.sel_grammar.specs.declared.grammar.Grammar.{Grammar}
+use Rattle.sel_grammar.specs.Lawful.{IsLawful}
+use Rattle.sel_forest.specs.declared.forest.Tree.{Tree}
+use Rattle.sel_normal.specs.NormalFaults.{IsAccepted}
+use Rattle.sel_work.specs.declared.answer.Answer.{Answer}
+use Rattle.sel_work.specs.declared.answer.Goal.{Goal}
+use Rattle.sel_work.specs.Laws.{AnswerExists}
+use Rattle.sel_count.specs.Things.{AreValid}
+use Rattle.sel_answers.specs.Output.{AreAnswers, AreAnswered, answers_text, has_second_costs, is_covered}
+use Rattle.sel_answers.proofs.Answering.{answers-append, answers-length, answers_text-append}
+use Rattle.sel_answers.proofs.TreeLists.{valid_head, valid_tail}
+use Rattle.sel_crew.specs.declared.crew.Crew.{Crew}
+use Rattle.sel_cli.specs.Crews.{AnswersMore, HasAnswered}
+use Rattle.sel_cli.specs.Ends.{IsFrontOf, IsFrontOfSome, WritesSome, finished}
+use Rattle.sel_cli.specs.Parts.{Writes, Stops}
+use Rattle.sel_cli.specs.Runs.{KeepsOutput}
+use Rattle.sel_cli.specs.declared.status.Status.{Status}
+use Rattle.sel_cli.specs.declared.status.Status.TheVariants.{Done, Usage, ReadFault, TooBig, BadGrammar, BadForest, WriteFault, NoMemory, Uncovered}
+use Rattle.sel_cli.proofs.Writing.{nothing_taken, output_kept}
+
+-- What was written of trees, with the rest of them to come.
+pub record WrittenSoFar (g : Grammar) (goal : Goal) (trees rest : List Tree) (before : ℕ) (covered : Bool) (old new : Crew) (out now : SinkTold) : Type 0 where
+  pub done : List Tree
+  pub cut : trees ≡ done ++ rest
+  pub count : before ≡ length done
+  pub writes : Writes (AreAnswered g goal 0 done) out now (finished covered)
+  pub answered : AnswersMore done old new
+
+pub taken_both : (known : Option (List ℕ)) (xs ys : List ℕ) → append_known (append_known known xs) ys ≡ append_known known (xs ++ ys)
+taken_both None xs ys = refl
+taken_both (Some bytes) xs ys = ap (λ l. Some l) (append_assoc bytes xs ys)
+
+not_fault : (covered : Bool) → finished covered ≢ WriteFault
+not_fault true e = cc
+not_fault false e = cc
+
+whole_of : (Is : Bool → List ℕ → Type 0) (before now : SinkTold) (bytes : List ℕ) (covered : Bool) → WritesSome Is before now bytes (finished covered) → Is covered bytes
+whole_of Is before now bytes true w = w
+whole_of Is before now bytes false w = w
+
+of_whole : (Is : Bool → List ℕ → Type 0) (before now : SinkTold) (bytes : List ℕ) (covered : Bool) → Is covered bytes → WritesSome Is before now bytes (finished covered)
+of_whole Is before now bytes true w = w
+of_whole Is before now bytes false w = w
+
+-- one writing behind another
+both_kept : (one two three : SinkTold) (covered : Bool) (status : Status) → KeepsOutput one two (finished covered) → KeepsOutput two three status → KeepsOutput one three status
+both_kept one two three covered status k l = record {
+  later = (let m = k.later in let n = l.later in omega arith);
+  quiet = λ no. l.quiet no ∙ k.quiet (not_fault covered);
+}
+
+pub nothing_answered : (g : Grammar) (goal : Goal) (sink : SinkTold) → Writes (AreAnswered g goal 0 []) sink sink (finished true)
+nothing_answered g goal sink = record {
+  bytes = [];
+  why = record { answers = []; answer_trees = tt; written = refl; all_covered = refl };
+  written = nothing_taken sink.taken;
+  keeps = output_kept sink (finished true);
+}
+
+-- whatever trees were answered, none more are
+pub none_more : (c : Crew) → AnswersMore [] c c
+none_more c = λ g settings given h. subst (λ l. HasAnswered g settings l c) (append-nil given) h
+
+-- these and then those
+pub more_and_more : (xs ys : List Tree) (one two three : Crew) → AnswersMore xs one two → AnswersMore ys two three → AnswersMore (xs ++ ys) one three
+more_and_more xs ys one two three h k = λ g settings given a. subst (λ l. HasAnswered g settings l three) (append_assoc given xs ys) (k g settings (given ++ xs) (h g settings given a))
+
+module _ (g : Grammar) (goal : Goal) where
+  pub joined : (before : ℕ) (xs ys : List Tree) (c d : Bool) (bytes more : List ℕ) → AreAnswered g goal before xs c bytes → AreAnswered g goal (before + length xs) ys d more
+      → AreAnswered g goal before (xs ++ ys) (c && d) (bytes ++ more)
+  joined before xs ys c d bytes more p q =
+      let second = has_second_costs g in
+      let long : length p.answers ≡ length xs = answers-length g goal xs p.answers p.answer_trees in
+      let place : before + length xs + 1 ≡ before + 1 + length p.answers = omega arith in
+      record {
+        answers = p.answers ++ q.answers;
+        answer_trees = answers-append g goal xs ys p.answers q.answers p.answer_trees q.answer_trees;
+        written = ap (λ l. l ++ more) p.written ∙ ap (λ l. answers_text second (before + 1) p.answers ++ l) (q.written ∙ ap (λ n. answers_text second n q.answers) place)
+            ∙ sym (answers_text-append second (before + 1) p.answers q.answers);
+        all_covered = list_all-append is_covered p.answers q.answers ∙ ap (λ b. b && list_all is_covered q.answers) p.all_covered ∙ ap (λ b. c && b) q.all_covered;
+      }
+
+  module _ (exist : AnswerExists) (lawful : IsLawful g) (accepted : IsAccepted g) where
+    answers_exist : (trees : List Tree) → AreValid g trees → (answers : List Answer) × AreAnswers g goal trees answers
+    answers_exist [] valid = ([], tt)
+    answers_exist (t ∷ trees) valid =
+        let v = valid_head g t trees valid in
+        let one = exist g goal v.plain lawful accepted in
+        let others = answers_exist trees (valid_tail g t trees valid) in
+        (one.0 ∷ others.0, ((v.plain, v.postorder, one.1), others.1))
+
+    pub answered_exists : (before : ℕ) (trees : List Tree) → AreValid g trees → (c : Bool) × (bytes : List ℕ) × AreAnswered g goal before trees c bytes
+    answered_exists before trees valid =
+        let answers = answers_exist trees valid in
+        (list_all is_covered answers.0, (answers_text (has_second_costs g) (before + 1) answers.0, record { answers = answers.0; answer_trees = answers.1; written = refl; all_covered = refl }))
+
+    -- a front of a batch's text is a front with more trees behind the batch
+    longer : (before : ℕ) (xs ys : List Tree) (bytes : List ℕ) → AreValid g ys → IsFrontOfSome (AreAnswered g goal before xs) bytes → IsFrontOfSome (AreAnswered g goal before (xs ++ ys)) bytes
+    longer before xs ys bytes valid (c, whole, is, (rest, cut)) =
+        let more = answered_exists (before + length xs) ys valid in
+        (c && more.0, (whole ++ more.1, (joined before xs ys c more.0 whole more.1 is more.2, (rest ++ more.1, ap (λ l. l ++ more.1) cut ∙ append_assoc bytes rest more.1))))
+
+    -- nothing is a front
+    pub no_front : (trees : List Tree) (before : ℕ) → AreValid g trees → IsFrontOfSome (AreAnswered g goal before trees) []
+    no_front trees before valid = let all = answered_exists before trees valid in (all.0, (all.1, (all.2, (all.1, refl))))
+
+  -- behind the text of trees before
+  behind : (xs ys : List Tree) (c : Bool) (bytes more : List ℕ) → AreAnswered g goal 0 xs c bytes → IsFrontOfSome (AreAnswered g goal (length xs) ys) more → IsFrontOfSome (AreAnswered g goal 0 (xs ++ ys)) (bytes ++ more)
+  behind xs ys c bytes more p (d, whole, is, (rest, cut)) =
+      (c && d, (bytes ++ whole, (joined 0 xs ys c d bytes whole p is, (rest, ap (λ l. bytes ++ l) cut ∙ sym (append_assoc bytes more rest)))))
+
+  -- a batch more is written
+  pub more_written : (xs ys : List Tree) (c d : Bool) (one two three : SinkTold) → Writes (AreAnswered g goal 0 xs) one two (finished c) → Writes (AreAnswered g goal (length xs) ys) two three (finished d)
+      → Writes (AreAnswered g goal 0 (xs ++ ys)) one three (finished (c && d))
+  more_written xs ys c d one two three w v = record {
+    bytes = w.bytes ++ v.bytes;
+    why = of_whole (AreAnswered g goal 0 (xs ++ ys)) one three (w.bytes ++ v.bytes) (c && d)
+        (joined 0 xs ys c d w.bytes v.bytes (whole_of (AreAnswered g goal 0 xs) one two w.bytes c w.why) (whole_of (AreAnswered g goal (length xs) ys) two three v.bytes d v.why));
+    written = v.written ∙ ap (λ k. append_known k v.bytes) w.written ∙ taken_both one.taken w.bytes v.bytes;
+    keeps = both_kept one two three c (finished (c && d)) w.keeps (record { later = (v.keeps).later; quiet = λ no. (v.keeps).quiet (not_fault d) });
+  }
+
+  -- the writing stopped in a batch, with more trees behind it
+  module _ (exist : AnswerExists) (lawful : IsLawful g) (accepted : IsAccepted g) (xs ys zs : List Tree) (valid : AreValid g (ys ++ zs)) (later : AreValid g zs) (c : Bool) (one two three : SinkTold)
+      (w : Writes (AreAnswered g goal 0 xs) one two (finished c)) where
+    first : AreAnswered g goal 0 xs c w.bytes
+    first = whole_of (AreAnswered g goal 0 xs) one two w.bytes c w.why
+
+    stopped_some : (bytes : List ℕ) (status : Status) → status ≢ Done → status ≢ Uncovered → WritesSome (AreAnswered g goal (length xs) ys) two three bytes status
+        → WritesSome (AreAnswered g goal 0 (xs ++ (ys ++ zs))) one three (w.bytes ++ bytes) status
+    stopped_some bytes WriteFault nd nu (rose, front) =
+        (subst (λ n. Rose n three.faults) ((w.keeps).quiet (not_fault c)) rose, behind xs (ys ++ zs) c w.bytes bytes first (longer exist lawful accepted (length xs) ys zs bytes later front))
+    stopped_some bytes NoMemory nd nu (inl none) =
+        inr (behind xs (ys ++ zs) c w.bytes bytes first (subst (λ l. IsFrontOfSome (AreAnswered g goal (length xs) (ys ++ zs)) l) (sym none) (no_front exist lawful accepted (ys ++ zs) (length xs) valid)))
+    stopped_some bytes NoMemory nd nu (inr front) = inr (behind xs (ys ++ zs) c w.bytes bytes first (longer exist lawful accepted (length xs) ys zs bytes later front))
+    stopped_some bytes Done nd nu s = absurd (nd refl)
+    stopped_some bytes Uncovered nd nu s = absurd (nu refl)
+    stopped_some bytes Usage nd nu s = absurd s
+    stopped_some bytes ReadFault nd nu s = absurd s
+    stopped_some bytes TooBig nd nu s = absurd s
+    stopped_some bytes (BadGrammar fault) nd nu s = absurd s
+    stopped_some bytes (BadForest fault) nd nu s = absurd s
+
+    pub stopped : (status : Status) → Stops (AreAnswered g goal (length xs) ys) two three status → Stops (AreAnswered g goal 0 (xs ++ (ys ++ zs))) one three status
+    stopped status s = record {
+      writes = record {
+        bytes = w.bytes ++ (s.writes).bytes;
+        why = stopped_some (s.writes).bytes status s.not_done s.not_uncovered (s.writes).why;
+        written = (s.writes).written ∙ ap (λ k. append_known k (s.writes).bytes) w.written ∙ taken_both one.taken w.bytes (s.writes).bytes;
+        keeps = both_kept one two three c status w.keeps (s.writes).keeps;
+      };
+      not_done = s.not_done;
+      not_uncovered = s.not_uncovered;
+    }
