@@ -1,8 +1,9 @@
 -- The answers of batches, one behind the other.
-use Rattle.std.proofs.Common.{◌≡◌, ◌≢◌, ℕ, ◌+◌, Bool, true, false, ◌&&◌, List, [], ◌∷◌, ◌++◌, length, Option, Some, None, refl, sym, ap, subst, ◌∙◌, inl, inr, ◌⊎◌, arith, append_assoc}
+use Rattle.std.proofs.Common.{◌≡◌, ◌≢◌, ℕ, ◌+◌, Bool, true, false, ◌&&◌, List, [], ◌∷◌, ◌++◌, length, take, drop, Option, Some, None, refl, sym, ap, subst, ◌∙◌, inl, inr, ◌⊎◌, arith, append_assoc}
 use Rattle.std.specs.List.{list_all}
 use Rattle.std.specs.Io.KnownBytes.{append_known}
-use Rattle.std.proofs.lemmas.List.{append-nil}
+use Rattle.std.proofs.lemmas.List.{append-nil, take-append-drop, length-append}
+use Rattle.std.proofs.lemmas.List.Elements.{Contains-append_left, Contains-append_right}
 use Rattle.std.proofs.lemmas.List.Folds.{list_all-append}
 use Rattle.sel_base.specs.Causes.{Rose}
 use Rattle.sel_base.specs.Puts.{SinkTold}
@@ -15,7 +16,8 @@ use Rattle.sel_work.specs.declared.answer.Goal.{Goal}
 use Rattle.sel_work.specs.Laws.{AnswerExists}
 use Rattle.sel_count.specs.Things.{AreValid}
 use Rattle.sel_answers.specs.Output.{AreAnswers, AreAnswered, answers_text, has_second_costs, is_covered}
-use Rattle.sel_answers.proofs.Answering.{answers-append, answers-length, answers_text-append}
+use Rattle.sel_answers.proofs.Answering.{answers-append, answers-length, answers_text-append, answers_of}
+use Rattle.sel_crew.specs.Answers.{AreAnswersOf}
 use Rattle.sel_answers.proofs.TreeLists.{valid_head, valid_tail}
 use Rattle.sel_crew.specs.declared.crew.Crew.{Crew}
 use Rattle.sel_cli.specs.Crews.{AnswersMore, HasAnswered}
@@ -67,19 +69,19 @@ nothing_answered g goal sink = record {
 
 -- whatever trees were answered, none more are
 pub none_more : (c : Crew) → AnswersMore [] c c
-none_more c = λ g settings given h. subst (λ l. HasAnswered g settings l c) (append-nil given) h
+none_more c = λ g settings given h. subst (λ l. HasAnswered g settings l c) (sym (append-nil given)) h
 
 -- these and then those
 pub more_and_more : (xs ys : List Tree) (one two three : Crew) → AnswersMore xs one two → AnswersMore ys two three → AnswersMore (xs ++ ys) one three
 more_and_more xs ys one two three h k = λ g settings given a. subst (λ l. HasAnswered g settings l three) (append_assoc given xs ys) (k g settings (given ++ xs) (h g settings given a))
 
 module _ (g : Grammar) (goal : Goal) where
-  pub joined : (before : ℕ) (xs ys : List Tree) (c d : Bool) (bytes more : List ℕ) → AreAnswered g goal before xs c bytes → AreAnswered g goal (before + length xs) ys d more
+  pub joined : (before : ℕ) (xs ys : List Tree) (between : ℕ) (c d : Bool) (bytes more : List ℕ) → between ≡ before + length xs → AreAnswered g goal before xs c bytes → AreAnswered g goal between ys d more
       → AreAnswered g goal before (xs ++ ys) (c && d) (bytes ++ more)
-  joined before xs ys c d bytes more p q =
+  joined before xs ys between c d bytes more there p q =
       let second = has_second_costs g in
       let long : length p.answers ≡ length xs = answers-length g goal xs p.answers p.answer_trees in
-      let place : before + length xs + 1 ≡ before + 1 + length p.answers = omega arith in
+      let place : between + 1 ≡ before + 1 + length p.answers = omega arith in
       record {
         answers = p.answers ++ q.answers;
         answer_trees = answers-append g goal xs ys p.answers q.answers p.answer_trees q.answer_trees;
@@ -100,22 +102,22 @@ module _ (g : Grammar) (goal : Goal) where
     pub answered_exists : (before : ℕ) (trees : List Tree) → AreValid g trees → (c : Bool) × (bytes : List ℕ) × AreAnswered g goal before trees c bytes
     answered_exists before trees valid =
         let answers = answers_exist trees valid in
-        (list_all is_covered answers.0, (answers_text (has_second_costs g) (before + 1) answers.0, record { answers = answers.0; answer_trees = answers.1; written = refl; all_covered = refl }))
+        (list_all is_covered answers.0, answers_text (has_second_costs g) (before + 1) answers.0, record { answers = answers.0; answer_trees = answers.1; written = refl; all_covered = refl })
 
     -- a front of a batch's text is a front with more trees behind the batch
     longer : (before : ℕ) (xs ys : List Tree) (bytes : List ℕ) → AreValid g ys → IsFrontOfSome (AreAnswered g goal before xs) bytes → IsFrontOfSome (AreAnswered g goal before (xs ++ ys)) bytes
     longer before xs ys bytes valid (c, whole, is, (rest, cut)) =
         let more = answered_exists (before + length xs) ys valid in
-        (c && more.0, (whole ++ more.1, (joined before xs ys c more.0 whole more.1 is more.2, (rest ++ more.1, ap (λ l. l ++ more.1) cut ∙ append_assoc bytes rest more.1))))
+        (c && more.0, whole ++ more.1, joined before xs ys (before + length xs) c more.0 whole more.1 refl is more.2, (rest ++ more.1, ap (λ l. l ++ more.1) cut ∙ append_assoc bytes rest more.1))
 
     -- nothing is a front
     pub no_front : (trees : List Tree) (before : ℕ) → AreValid g trees → IsFrontOfSome (AreAnswered g goal before trees) []
-    no_front trees before valid = let all = answered_exists before trees valid in (all.0, (all.1, (all.2, (all.1, refl))))
+    no_front trees before valid = let all = answered_exists before trees valid in (all.0, all.1, all.2, (all.1, refl))
 
   -- behind the text of trees before
   behind : (xs ys : List Tree) (c : Bool) (bytes more : List ℕ) → AreAnswered g goal 0 xs c bytes → IsFrontOfSome (AreAnswered g goal (length xs) ys) more → IsFrontOfSome (AreAnswered g goal 0 (xs ++ ys)) (bytes ++ more)
   behind xs ys c bytes more p (d, whole, is, (rest, cut)) =
-      (c && d, (bytes ++ whole, (joined 0 xs ys c d bytes whole p is, (rest, ap (λ l. bytes ++ l) cut ∙ sym (append_assoc bytes more rest)))))
+      (c && d, bytes ++ whole, joined 0 xs ys (length xs) c d bytes whole (omega arith) p is, (rest, ap (λ l. bytes ++ l) cut ∙ sym (append_assoc bytes more rest)))
 
   -- a batch more is written
   pub more_written : (xs ys : List Tree) (c d : Bool) (one two three : SinkTold) → Writes (AreAnswered g goal 0 xs) one two (finished c) → Writes (AreAnswered g goal (length xs) ys) two three (finished d)
@@ -123,7 +125,7 @@ module _ (g : Grammar) (goal : Goal) where
   more_written xs ys c d one two three w v = record {
     bytes = w.bytes ++ v.bytes;
     why = of_whole (AreAnswered g goal 0 (xs ++ ys)) one three (w.bytes ++ v.bytes) (c && d)
-        (joined 0 xs ys c d w.bytes v.bytes (whole_of (AreAnswered g goal 0 xs) one two w.bytes c w.why) (whole_of (AreAnswered g goal (length xs) ys) two three v.bytes d v.why));
+        (joined 0 xs ys (length xs) c d w.bytes v.bytes (omega arith) (whole_of (AreAnswered g goal 0 xs) one two w.bytes c w.why) (whole_of (AreAnswered g goal (length xs) ys) two three v.bytes d v.why));
     written = v.written ∙ ap (λ k. append_known k v.bytes) w.written ∙ taken_both one.taken w.bytes v.bytes;
     keeps = both_kept one two three c (finished (c && d)) w.keeps (record { later = (v.keeps).later; quiet = λ no. (v.keeps).quiet (not_fault d) });
   }
@@ -160,3 +162,84 @@ module _ (g : Grammar) (goal : Goal) where
       not_done = s.not_done;
       not_uncovered = s.not_uncovered;
     }
+
+-- ---- the trees that a loop cuts batches off
+
+pub cut_at : (n : ℕ) (rest batch more : List Tree) → batch ≡ take n rest → more ≡ drop n rest → rest ≡ batch ++ more
+cut_at n rest batch more front back = sym (take-append-drop n rest) ∙ ap (λ l. l ++ drop n rest) (sym front) ∙ ap (λ l. batch ++ l) (sym back)
+
+pub valid_behind : (g : Grammar) (xs ys : List Tree) → AreValid g (xs ++ ys) → AreValid g ys
+valid_behind g xs ys valid = λ tree there. valid tree (Contains-append_right xs ys tree there)
+
+pub valid_before : (g : Grammar) (xs ys : List Tree) → AreValid g (xs ++ ys) → AreValid g xs
+valid_before g xs ys valid = λ tree there. valid tree (Contains-append_left xs ys tree there)
+
+-- so the trees of a batch are valid
+pub valid_batch : (g other : Grammar) (trees done rest batch more : List Tree) → AreValid g trees → trees ≡ done ++ rest → rest ≡ batch ++ more → other ≡ g → AreValid other batch
+valid_batch g other trees done rest batch more valid cut next same =
+    subst (λ x. AreValid x batch) (sym same) (valid_before g batch more (subst (λ l. AreValid g l) next (valid_behind g done rest (subst (λ l. AreValid g l) cut valid))))
+
+-- as many answers as trees
+pub answers_count : (g : Grammar) (goal : Goal) (trees : List Tree) (answers : List Answer) → AreAnswersOf g goal trees answers → length answers ≡ length trees
+answers_count g goal [] [] h = refl
+answers_count g goal [] (a ∷ answers) h = absurd h
+answers_count g goal (t ∷ trees) [] h = absurd h
+answers_count g goal (t ∷ trees) (a ∷ answers) h = let e = answers_count g goal trees answers h.1 in omega arith
+
+-- the text of a batch's answers is what is to be written of it
+pub batch_answered : (g : Grammar) (goal : Goal) (before : ℕ) (batch : List Tree) (answers : List Answer) (second : Bool) → second ≡ has_second_costs g → AreValid g batch → AreAnswersOf g goal batch answers
+    → AreAnswered g goal before batch (list_all is_covered answers) (answers_text second (before + 1) answers)
+batch_answered g goal before batch answers second is valid h =
+    record { answers = answers; answer_trees = answers_of g goal batch answers valid h; written = ap (λ s. answers_text s (before + 1) answers) is; all_covered = refl }
+
+module _ (g now : Grammar) (goal : Goal) (trees rest batch more : List Tree) (before : ℕ) (covered : Bool) (old new : Crew) (out mid last : SinkTold)
+    (so_far : WrittenSoFar g goal trees rest before covered old new out mid) (same : now ≡ g) (next : rest ≡ batch ++ more) where
+  here : {R : Type 0} (P : Grammar → ℕ → R → Type 0) (r : R) → P now before r → P g (length so_far.done) r
+  here P r p = subst (λ n. P g n r) so_far.count (subst (λ x. P x before r) same p)
+
+  whole : trees ≡ so_far.done ++ (batch ++ more)
+  whole = so_far.cut ∙ ap (λ l. so_far.done ++ l) next
+
+  pub batch_written : (newer : Crew) (all : Bool) → Writes (AreAnswered now goal before batch) mid last (finished all) → AnswersMore batch new newer
+      → WrittenSoFar g goal trees more (before + length batch) (covered && all) old newer out last
+  batch_written newer all w answered = record {
+    done = so_far.done ++ batch;
+    cut = whole ∙ sym (append_assoc so_far.done batch more);
+    count = ap (λ n. n + length batch) so_far.count ∙ sym (length-append so_far.done batch);
+    writes = more_written g goal so_far.done batch covered all out mid last so_far.writes (here (λ x n b. Writes (AreAnswered x goal n batch) mid last (finished b)) all w);
+    answered = more_and_more so_far.done batch old new newer so_far.answered answered;
+  }
+
+  pub stop_written : (status : Status) → AnswerExists → IsLawful g → IsAccepted g → AreValid g trees → Stops (AreAnswered now goal before batch) mid last status → Stops (AreAnswered g goal 0 trees) out last status
+  stop_written status exist lawful accepted valid s =
+      let v : AreValid g (batch ++ more) = valid_behind g so_far.done (batch ++ more) (subst (λ l. AreValid g l) whole valid) in
+      subst (λ l. Stops (AreAnswered g goal 0 l) out last status) (sym whole)
+      (stopped g goal exist lawful accepted so_far.done batch more v (valid_behind g batch more v) covered out mid last so_far.writes status
+      (here (λ x n t. Stops (AreAnswered x goal n batch) mid last t) status s))
+
+pub none_left : (trees : List Tree) → length trees ≡ 0 → trees ≡ []
+none_left [] e = refl
+none_left (t ∷ trees) e = absurd (omega (arith, e))
+
+-- nothing is left
+module _ (g : Grammar) (goal : Goal) (trees rest : List Tree) (before : ℕ) (covered : Bool) (old new : Crew) (out mid : SinkTold)
+    (so_far : WrittenSoFar g goal trees rest before covered old new out mid) (none : rest ≡ []) where
+  all_done : so_far.done ≡ trees
+  all_done = sym (so_far.cut ∙ ap (λ l. so_far.done ++ l) none ∙ append-nil so_far.done)
+
+  pub all_written : Writes (AreAnswered g goal 0 trees) out mid (finished covered)
+  all_written = subst (λ l. Writes (AreAnswered g goal 0 l) out mid (finished covered)) all_done so_far.writes
+
+  pub all_answered : AnswersMore trees old new
+  all_answered = subst (λ l. AnswersMore l old new) all_done so_far.answered
+
+-- the end behind the last batch: the report may be refused memory
+pub closed_writes : (Is : Bool → List ℕ → Type 0) (out now : SinkTold) (covered : Bool) (status : Status) (nothing : Type 0) → Writes Is out now (finished covered)
+    → (status ≡ finished covered) ⊎ ((status ≡ NoMemory) × nothing) → Writes Is out now status
+closed_writes Is out now covered status nothing w (inl is) = subst (λ s. Writes Is out now s) (sym is) w
+closed_writes Is out now covered status nothing w (inr (is, _)) = subst (λ s. Writes Is out now s) (sym is) (record {
+  bytes = w.bytes;
+  why = inr (covered, w.bytes, whole_of Is out now w.bytes covered w.why, ([], sym (append-nil w.bytes)));
+  written = w.written;
+  keeps = record { later = (w.keeps).later; quiet = λ no. (w.keeps).quiet (not_fault covered) };
+})

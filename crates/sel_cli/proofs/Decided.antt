@@ -25,11 +25,12 @@ use Rattle.sel_work.specs.declared.answer.Goal.{Goal}
 use Rattle.sel_work.specs.Answers.{IsTreeAnswer}
 use Rattle.sel_work.proofs.OneAnswer.{answer_one}
 use Rattle.sel_gen.proofs.OneForest.{made_one_forest}
-use Rattle.sel_answers.specs.declared.told.Told.{Told}
-use Rattle.sel_answers.specs.declared.told.Told.TheVariants as told
-use Rattle.sel_answers.specs.Output.{AreAnswers, AreAnswered, IsTreesAnswer, IsOutput, goal_of, is_covered}
+use Rattle.sel_work.specs.declared.answer.Goal.TheVariants as goals
+use Rattle.sel_crew.specs.declared.report.Report.{Report}
+use Rattle.sel_answers.specs.Output.{TableMarks, AreAnswers, AreAnswered, AreSummedUp, IsTreesAnswer, IsOutput, is_covered}
+use Rattle.sel_answers.specs.Reported.{marks_of}
 use Rattle.sel_cli.specs.Texts.{Request, IsTold, MayBe, IsGrammarText, HasGrammarText, HasForestText, AcceptsGrammar, Accepts, IsTooLong, IsRefusedGrammar, RefusesGrammar, RefusesForest, IsWhole, grammar_limit, forest_limit}
-use Rattle.sel_cli.specs.Ends.{EndsFor, Decides, IsExcused, ComesAsDecided, IsAnswered, IsComplete, finished}
+use Rattle.sel_cli.specs.Ends.{EndsFor, DoesTask, WritesSome, Decides, IsExcused, ComesAsDecided, IsAnswered, IsComplete, finished}
 use Rattle.sel_cli.specs.declared.status.Status.{Status}
 use Rattle.sel_cli.specs.declared.status.Status.TheVariants.{Done, Usage, ReadFault, TooBig, BadGrammar, BadForest, WriteFault, NoMemory, Uncovered}
 
@@ -153,11 +154,15 @@ same_found request (Some side) (Some other) (task, text, has, found) (task', tex
 
 -- ---- the status that it shows
 
--- a task was done with this output
-abbrev ShowsOutput : Job → Grammar → Option Forest → List ℕ → Status → Type 0
-ShowsOutput job g forest bytes status = (covered : Bool) × IsOutput job g forest covered bytes × (status ≡ finished covered)
+-- the marks of a table and an output's bytes
+abbrev Written : Type 0
+Written = TableMarks × List ℕ
 
-abbrev Shows : Option Side → List ℕ → Status → Type 0
+-- a task was done with this output
+abbrev ShowsOutput : Job → Grammar → Option Forest → Written → Status → Type 0
+ShowsOutput job g forest bytes status = (covered : Bool) × IsOutput job g forest bytes.0 covered bytes.1 × (status ≡ finished covered)
+
+abbrev Shows : Option Side → Written → Status → Type 0
 Shows None bytes status = status ≡ Usage
 Shows (Some long_grammar) bytes status = status ≡ TooBig
 Shows (Some (bad_grammar fault)) bytes status = status ≡ BadGrammar fault
@@ -180,32 +185,36 @@ same_covered g goal (t ∷ trees) (x ∷ xs) [] p q = absurd q
 same_covered g goal (t ∷ trees) (x ∷ xs) (y ∷ ys) p q =
     ap (λ c. c && list_all is_covered xs) (same_answer g goal t x y p.0 q.0) ∙ ap (λ c. is_covered y && c) (same_covered g goal trees xs ys p.1 q.1)
 
-same_answered : (g : Grammar) (told : Told) (trees : List Tree) (a b : Bool) (bytes other : List ℕ)
-    → AreAnswered g told trees a bytes → AreAnswered g told trees b other → a ≡ b
-same_answered g told trees a b bytes other p q = sym p.all_covered ∙ same_covered g (goal_of told) trees p.answers q.answers p.answer_trees q.answer_trees ∙ q.all_covered
+same_answered : (g : Grammar) (goal : Goal) (trees : List Tree) (a b : Bool) (bytes other : List ℕ)
+    → AreAnswered g goal 0 trees a bytes → AreAnswered g goal 0 trees b other → a ≡ b
+same_answered g goal trees a b bytes other p q = sym p.all_covered ∙ same_covered g goal trees p.answers q.answers p.answer_trees q.answer_trees ∙ q.all_covered
+
+same_summed : (g : Grammar) (m n : TableMarks) (trees : List Tree) (a b : Bool) (bytes other : List ℕ)
+    → AreSummedUp g m trees a bytes → AreSummedUp g n trees b other → a ≡ b
+same_summed g m n trees a b bytes other p q = sym p.all_covered ∙ same_covered g goals.Cover trees p.answers q.answers p.answer_trees q.answer_trees ∙ q.all_covered
 
 -- a job's output tells whether every tree is covered
-same_end : (job : Job) (g : Grammar) (forest : Option Forest) (a b : Bool) (bytes other : List ℕ) → IsOutput job g forest a bytes → IsOutput job g forest b other → a ≡ b
-same_end PrintGrammar g None a b bytes other p q = p.1 ∙ sym q.1
-same_end PrintGrammar g (Some forest) a b bytes other p q = absurd p
-same_end (Make seed trees size) g None a b bytes other (forest, made, p) (again, made', q) =
+same_end : (job : Job) (g : Grammar) (forest : Option Forest) (m n : TableMarks) (a b : Bool) (bytes other : List ℕ) → IsOutput job g forest m a bytes → IsOutput job g forest n b other → a ≡ b
+same_end PrintGrammar g None m n a b bytes other p q = p.1 ∙ sym q.1
+same_end PrintGrammar g (Some forest) m n a b bytes other p q = absurd p
+same_end (Make seed trees size) g None m n a b bytes other (forest, made, p) (again, made', q) =
     let same : again ≡ forest = made_one_forest g seed trees size again forest made' made in
-    same_answered g told.Summary forest.trees a b bytes other p (subst (λ (f : Forest). AreAnswered g told.Summary f.trees b other) same q)
-same_end (Make seed trees size) g (Some forest) a b bytes other p q = absurd p
-same_end (OverForest mode.Cover name) g None a b bytes other p q = absurd p
-same_end (OverForest mode.Cover name) g (Some forest) a b bytes other p q = same_answered g told.Covers forest.trees a b bytes other p q
-same_end (OverForest mode.Select name) g None a b bytes other p q = absurd p
-same_end (OverForest mode.Select name) g (Some forest) a b bytes other p q = same_answered g told.Texts forest.trees a b bytes other p q
-same_end (OverForest mode.Summary name) g None a b bytes other p q = absurd p
-same_end (OverForest mode.Summary name) g (Some forest) a b bytes other p q = same_answered g told.Summary forest.trees a b bytes other p q
-same_end (OverForest mode.Print name) g None a b bytes other p q = absurd p
-same_end (OverForest mode.Print name) g (Some forest) a b bytes other p q = p.1 ∙ sym q.1
+    same_summed g m n forest.trees a b bytes other p (subst (λ (f : Forest). AreSummedUp g n f.trees b other) same q)
+same_end (Make seed trees size) g (Some forest) m n a b bytes other p q = absurd p
+same_end (OverForest mode.Cover name) g None m n a b bytes other p q = absurd p
+same_end (OverForest mode.Cover name) g (Some forest) m n a b bytes other p q = same_answered g goals.Cover forest.trees a b bytes other p q
+same_end (OverForest mode.Select name) g None m n a b bytes other p q = absurd p
+same_end (OverForest mode.Select name) g (Some forest) m n a b bytes other p q = same_answered g goals.Text forest.trees a b bytes other p q
+same_end (OverForest mode.Summary name) g None m n a b bytes other p q = absurd p
+same_end (OverForest mode.Summary name) g (Some forest) m n a b bytes other p q = same_summed g m n forest.trees a b bytes other p q
+same_end (OverForest mode.Print name) g None m n a b bytes other p q = absurd p
+same_end (OverForest mode.Print name) g (Some forest) m n a b bytes other p q = p.1 ∙ sym q.1
 
-same_output : (job : Job) (g : Grammar) (forest : Option Forest) (bytes other : List ℕ) (status another : Status) → ShowsOutput job g forest bytes status → ShowsOutput job g forest other another → status ≡ another
+same_output : (job : Job) (g : Grammar) (forest : Option Forest) (bytes other : Written) (status another : Status) → ShowsOutput job g forest bytes status → ShowsOutput job g forest other another → status ≡ another
 same_output job g forest bytes other status another (covered, output, is) (covered', output', is') =
-    is ∙ ap finished (same_end job g forest covered covered' bytes other output output') ∙ sym is'
+    is ∙ ap finished (same_end job g forest bytes.0 other.0 covered covered' bytes.1 other.1 output output') ∙ sym is'
 
-same_shown : (side : Option Side) (bytes other : List ℕ) (status another : Status) → Shows side bytes status → Shows side other another → status ≡ another
+same_shown : (side : Option Side) (bytes other : Written) (status another : Status) → Shows side bytes status → Shows side other another → status ≡ another
 same_shown None bytes other status another p q = p ∙ sym q
 same_shown (Some long_grammar) bytes other status another p q = p ∙ sym q
 same_shown (Some (bad_grammar fault)) bytes other status another p q = p ∙ sym q
@@ -216,7 +225,7 @@ same_shown (Some (beside job g (good_forest forest))) bytes other status another
 
 -- ---- from what is told
 
-abbrev Found : (Option (List ℕ) → List ℕ → Type 0) → Request → List ℕ → Status → Type 0
+abbrev Found : (Option (List ℕ) → List ℕ → Type 0) → Request → Written → Status → Type 0
 Found Is request bytes status = (side : Option Side) × Finds Is request side × Shows side bytes status
 
 spelled_by : (Is : Option (List ℕ) → List ℕ → Type 0) (request : Request) (task : Task) (g : Grammar) (a : AcceptsGrammar Is request task g) → Spelled a.text g
@@ -229,15 +238,15 @@ forest_found Is request task g name text side has found =
     let a = has.accepts_grammar in
     (task, a.text, a.has, (spelled_by Is request task g a, (refl, (name, has.is_named, (text, has.is_text, found)))))
 
-long_found : (Is : Option (List ℕ) → List ℕ → Type 0) (request : Request) (name : List ℕ) (limit : ℕ) (bytes : List ℕ) → IsTooLong Is request name limit → Found Is request bytes TooBig
+long_found : (Is : Option (List ℕ) → List ℕ → Type 0) (request : Request) (name : List ℕ) (limit : ℕ) (bytes : Written) → IsTooLong Is request name limit → Found Is request bytes TooBig
 long_found Is request name limit bytes (inl (task, text, has, named, l, long)) = (Some long_grammar, (task, text, has, subst (λ k. k < length text) l long), refl)
 long_found Is request name limit bytes (inr (task, g, text, has, l, long)) =
     (Some (beside task.job g long_forest), forest_found Is request task g name text long_forest has (subst (λ k. k < length text) l long), refl)
 
-bad_grammar_found : (Is : Option (List ℕ) → List ℕ → Type 0) (request : Request) (name : List ℕ) (fault : GrammarFault) (bytes : List ℕ) → RefusesGrammar Is request name fault → Found Is request bytes (BadGrammar fault)
+bad_grammar_found : (Is : Option (List ℕ) → List ℕ → Type 0) (request : Request) (name : List ℕ) (fault : GrammarFault) (bytes : Written) → RefusesGrammar Is request name fault → Found Is request bytes (BadGrammar fault)
 bad_grammar_found Is request name fault bytes r = (Some (bad_grammar fault), (r.task, r.text, r.has, (r.within, r.refused)), refl)
 
-bad_forest_found : (Is : Option (List ℕ) → List ℕ → Type 0) (request : Request) (name : List ℕ) (fault : ForestFault) (bytes : List ℕ) → RefusesForest Is request name fault → Found Is request bytes (BadForest fault)
+bad_forest_found : (Is : Option (List ℕ) → List ℕ → Type 0) (request : Request) (name : List ℕ) (fault : ForestFault) (bytes : Written) → RefusesForest Is request name fault → Found Is request bytes (BadForest fault)
 bad_forest_found Is request name fault bytes r =
     (Some (beside (r.task).job r.grammar (bad_forest fault)), forest_found Is request r.task r.grammar name r.text (bad_forest fault) r.has (r.within, r.refused), refl)
 
@@ -250,80 +259,88 @@ accepted_found : (Is : Option (List ℕ) → List ℕ → Type 0) (request : Req
 accepted_found Is request task g None (a, n) = (task, a.text, a.has, (spelled_by Is request task g a, (refl, n)))
 accepted_found Is request task g (Some forest) a = forest_found Is request task g a.name a.text (good_forest forest) a.has (a.within, a.spelled)
 
-output_shown : (task : Task) (g : Grammar) (forest : Option Forest) (bytes : List ℕ) (status : Status) → ShowsOutput task.job g forest bytes status → Shows (Some (side_of task g forest)) bytes status
+output_shown : (task : Task) (g : Grammar) (forest : Option Forest) (bytes : Written) (status : Status) → ShowsOutput task.job g forest bytes status → Shows (Some (side_of task g forest)) bytes status
 output_shown task g None bytes status s = s
 output_shown task g (Some forest) bytes status s = s
 
-shown_output : (task : Task) (g : Grammar) (forest : Option Forest) (bytes : List ℕ) (status : Status) → Shows (Some (side_of task g forest)) bytes status → ShowsOutput task.job g forest bytes status
+shown_output : (task : Task) (g : Grammar) (forest : Option Forest) (bytes : Written) (status : Status) → Shows (Some (side_of task g forest)) bytes status → ShowsOutput task.job g forest bytes status
 shown_output task g None bytes status s = s
 shown_output task g (Some forest) bytes status s = s
 
-whole_found : (Is : Option (List ℕ) → List ℕ → Type 0) (request : Request) (covered : Bool) (bytes : List ℕ) → IsWhole Is request covered bytes → Found Is request bytes (finished covered)
+whole_found : (Is : Option (List ℕ) → List ℕ → Type 0) (request : Request) (covered : Bool) (bytes : Written) → IsWhole Is request bytes.0 covered bytes.1 → Found Is request bytes (finished covered)
 whole_found Is request covered bytes (task, g, forest, accepts, output) =
     (Some (side_of task g forest), accepted_found Is request task g forest accepts, output_shown task g forest bytes (finished covered) (covered, output, refl))
 
-decides_found : (request : Request) (status : Status) → Decides request status → (bytes : List ℕ) × Found IsTold request bytes status
-decides_found request Usage d = ([], (None, d, refl))
-decides_found request TooBig (name, limit, long) = ([], long_found IsTold request name limit [] long)
-decides_found request (BadGrammar fault) (name, r) = ([], bad_grammar_found IsTold request name fault [] r)
-decides_found request (BadForest fault) (name, r) = ([], bad_forest_found IsTold request name fault [] r)
-decides_found request Done (bytes, w) = (bytes, whole_found IsTold request true bytes w)
-decides_found request Uncovered (bytes, w) = (bytes, whole_found IsTold request false bytes w)
+no_output : Written
+no_output = (record { used_up = false; row_full = false }, [])
+
+decides_found : (request : Request) (status : Status) → Decides request status → (bytes : Written) × Found IsTold request bytes status
+decides_found request Usage d = (no_output, (None, d, refl))
+decides_found request TooBig (name, limit, long) = (no_output, long_found IsTold request name limit no_output long)
+decides_found request (BadGrammar fault) (name, r) = (no_output, bad_grammar_found IsTold request name fault no_output r)
+decides_found request (BadForest fault) (name, r) = (no_output, bad_forest_found IsTold request name fault no_output r)
+decides_found request Done (marks, bytes, w) = ((marks, bytes), whole_found IsTold request true (marks, bytes) w)
+decides_found request Uncovered (marks, bytes, w) = ((marks, bytes), whole_found IsTold request false (marks, bytes) w)
 decides_found request ReadFault d = absurd d
 decides_found request WriteFault d = absurd d
 decides_found request NoMemory d = absurd d
 
-ends_found : (request : Request) (shelf shelf_now : ShelfTold) (out out_now : SinkTold) (name bytes : List ℕ) (status : Status)
-    → EndsFor request shelf shelf_now out out_now name bytes status → IsExcused status ⊎ Found MayBe request bytes status
-ends_found request shelf shelf_now out out_now name bytes Usage (inl e) = inr (None, e.1, refl)
-ends_found request shelf shelf_now out out_now name bytes TooBig (inl e) = inr (long_found MayBe request name (e.1).limit bytes (e.1).too_long)
-ends_found request shelf shelf_now out out_now name bytes (BadGrammar fault) (inl e) = inr (bad_grammar_found MayBe request name fault bytes e.1)
-ends_found request shelf shelf_now out out_now name bytes (BadForest fault) (inl e) = inr (bad_forest_found MayBe request name fault bytes e.1)
-ends_found request shelf shelf_now out out_now name bytes Done (inl e) = absurd e.1
-ends_found request shelf shelf_now out out_now name bytes Uncovered (inl e) = absurd e.1
-ends_found request shelf shelf_now out out_now name bytes Usage (inr e) = absurd e
-ends_found request shelf shelf_now out out_now name bytes TooBig (inr e) = absurd e
-ends_found request shelf shelf_now out out_now name bytes (BadGrammar fault) (inr e) = absurd e
-ends_found request shelf shelf_now out out_now name bytes (BadForest fault) (inr e) = absurd e
-ends_found request shelf shelf_now out out_now name bytes Done (inr e) = inr (whole_found MayBe request true bytes e)
-ends_found request shelf shelf_now out out_now name bytes Uncovered (inr e) = inr (whole_found MayBe request false bytes e)
-ends_found request shelf shelf_now out out_now name bytes ReadFault e = inl tt
-ends_found request shelf shelf_now out out_now name bytes WriteFault e = inl tt
-ends_found request shelf shelf_now out out_now name bytes NoMemory e = inl tt
+-- what was written by a task that was done
+done_found : (request : Request) (report : Report) (out out_now : SinkTold) (bytes : List ℕ) (covered : Bool) (d : DoesTask request report out out_now bytes (finished covered))
+    → IsOutput (d.task).job d.grammar d.forest (marks_of report) covered bytes → Found MayBe request (marks_of report, bytes) (finished covered)
+done_found request report out out_now bytes covered d output = whole_found MayBe request covered (marks_of report, bytes) (d.task, d.grammar, d.forest, d.accepts, output)
 
-pub decided : (request : Request) (shelf shelf_now : ShelfTold) (out out_now : SinkTold) (name bytes : List ℕ) (result : Status)
-    → EndsFor request shelf shelf_now out out_now name bytes result → ComesAsDecided request result
-decided request shelf shelf_now out out_now name bytes result ends status d = go (ends_found request shelf shelf_now out out_now name bytes result ends) (decides_found request status d)
+ends_found : (request : Request) (report : Report) (shelf shelf_now : ShelfTold) (out out_now : SinkTold) (name bytes : List ℕ) (status : Status)
+    → EndsFor request report shelf shelf_now out out_now name bytes status → IsExcused status ⊎ Found MayBe request (marks_of report, bytes) status
+ends_found request report shelf shelf_now out out_now name bytes Usage (inl e) = inr (None, e.2, refl)
+ends_found request report shelf shelf_now out out_now name bytes TooBig (inl e) = inr (long_found MayBe request name (e.2).limit (marks_of report, bytes) (e.2).too_long)
+ends_found request report shelf shelf_now out out_now name bytes (BadGrammar fault) (inl e) = inr (bad_grammar_found MayBe request name fault (marks_of report, bytes) e.2)
+ends_found request report shelf shelf_now out out_now name bytes (BadForest fault) (inl e) = inr (bad_forest_found MayBe request name fault (marks_of report, bytes) e.2)
+ends_found request report shelf shelf_now out out_now name bytes Done (inl e) = absurd e.2
+ends_found request report shelf shelf_now out out_now name bytes Uncovered (inl e) = absurd e.2
+ends_found request report shelf shelf_now out out_now name bytes Usage (inr d) = absurd d.writes
+ends_found request report shelf shelf_now out out_now name bytes TooBig (inr d) = absurd d.writes
+ends_found request report shelf shelf_now out out_now name bytes (BadGrammar fault) (inr d) = absurd d.writes
+ends_found request report shelf shelf_now out out_now name bytes (BadForest fault) (inr d) = absurd d.writes
+ends_found request report shelf shelf_now out out_now name bytes Done (inr d) = inr (done_found request report out out_now bytes true d d.writes)
+ends_found request report shelf shelf_now out out_now name bytes Uncovered (inr d) = inr (done_found request report out out_now bytes false d d.writes)
+ends_found request report shelf shelf_now out out_now name bytes ReadFault e = inl tt
+ends_found request report shelf shelf_now out out_now name bytes WriteFault e = inl tt
+ends_found request report shelf shelf_now out out_now name bytes NoMemory e = inl tt
+
+pub decided : (request : Request) (report : Report) (shelf shelf_now : ShelfTold) (out out_now : SinkTold) (name bytes : List ℕ) (result : Status)
+    → EndsFor request report shelf shelf_now out out_now name bytes result → ComesAsDecided request result
+decided request report shelf shelf_now out out_now name bytes result ends status d = go (ends_found request report shelf shelf_now out out_now name bytes result ends) (decides_found request status d)
   where
-    go : IsExcused result ⊎ Found MayBe request bytes result → ((other : List ℕ) × Found IsTold request other status) → (result ≡ status) ⊎ IsExcused result
+    go : IsExcused result ⊎ Found MayBe request (marks_of report, bytes) result → ((other : Written) × Found IsTold request other status) → (result ≡ status) ⊎ IsExcused result
     go (inl x) k = inr x
     go (inr (side, found, shows)) (other, (side', found', shows')) =
         let e = same_found request side side' found found' in
-        inl (same_shown side' bytes other result status (subst (λ s. Shows s bytes result) e shows) shows')
+        inl (same_shown side' (marks_of report, bytes) other result status (subst (λ s. Shows s (marks_of report, bytes) result) e shows) shows')
 
 -- ---- completeness
 
-excused_ends : (request : Request) (shelf shelf_now : ShelfTold) (out out_now : SinkTold) (name bytes : List ℕ) (result : Status)
-    → ¬ Rose shelf.faults shelf_now.faults → ¬ Rose out.faults out_now.faults → EndsFor request shelf shelf_now out out_now name bytes result → IsExcused result → result ≡ NoMemory
-excused_ends request shelf shelf_now out out_now name bytes NoMemory nr nw ends x = refl
-excused_ends request shelf shelf_now out out_now name bytes ReadFault nr nw (inl e) x = absurd (nr (e.1).rose)
-excused_ends request shelf shelf_now out out_now name bytes ReadFault nr nw (inr e) x = absurd e
-excused_ends request shelf shelf_now out out_now name bytes WriteFault nr nw (inl e) x = absurd e.1
-excused_ends request shelf shelf_now out out_now name bytes WriteFault nr nw (inr e) x = absurd (nw e.0)
-excused_ends request shelf shelf_now out out_now name bytes Done nr nw ends x = absurd x
-excused_ends request shelf shelf_now out out_now name bytes Uncovered nr nw ends x = absurd x
-excused_ends request shelf shelf_now out out_now name bytes Usage nr nw ends x = absurd x
-excused_ends request shelf shelf_now out out_now name bytes TooBig nr nw ends x = absurd x
-excused_ends request shelf shelf_now out out_now name bytes (BadGrammar fault) nr nw ends x = absurd x
-excused_ends request shelf shelf_now out out_now name bytes (BadForest fault) nr nw ends x = absurd x
+excused_ends : (request : Request) (report : Report) (shelf shelf_now : ShelfTold) (out out_now : SinkTold) (name bytes : List ℕ) (result : Status)
+    → ¬ Rose shelf.faults shelf_now.faults → ¬ Rose out.faults out_now.faults → EndsFor request report shelf shelf_now out out_now name bytes result → IsExcused result → result ≡ NoMemory
+excused_ends request report shelf shelf_now out out_now name bytes NoMemory nr nw ends x = refl
+excused_ends request report shelf shelf_now out out_now name bytes ReadFault nr nw (inl e) x = absurd (nr (e.2).rose)
+excused_ends request report shelf shelf_now out out_now name bytes ReadFault nr nw (inr d) x = absurd d.writes
+excused_ends request report shelf shelf_now out out_now name bytes WriteFault nr nw (inl e) x = absurd e.2
+excused_ends request report shelf shelf_now out out_now name bytes WriteFault nr nw (inr d) x = absurd (nw (d.writes).0)
+excused_ends request report shelf shelf_now out out_now name bytes Done nr nw ends x = absurd x
+excused_ends request report shelf shelf_now out out_now name bytes Uncovered nr nw ends x = absurd x
+excused_ends request report shelf shelf_now out out_now name bytes Usage nr nw ends x = absurd x
+excused_ends request report shelf shelf_now out out_now name bytes TooBig nr nw ends x = absurd x
+excused_ends request report shelf shelf_now out out_now name bytes (BadGrammar fault) nr nw ends x = absurd x
+excused_ends request report shelf shelf_now out out_now name bytes (BadForest fault) nr nw ends x = absurd x
 
-pub completes : (request : Request) (shelf shelf_now : ShelfTold) (out out_now : SinkTold) (name bytes : List ℕ) (result : Status)
-    → out_now.taken ≡ append_known out.taken bytes → EndsFor request shelf shelf_now out out_now name bytes result → IsComplete request shelf shelf_now out out_now result
-completes request shelf shelf_now out out_now name bytes result written ends task g forest accepts nr nw = go (ends_found request shelf shelf_now out out_now name bytes result ends)
+pub completes : (request : Request) (report : Report) (shelf shelf_now : ShelfTold) (out out_now : SinkTold) (name bytes : List ℕ) (result : Status)
+    → out_now.taken ≡ append_known out.taken bytes → EndsFor request report shelf shelf_now out out_now name bytes result → IsComplete request (marks_of report) shelf shelf_now out out_now result
+completes request report shelf shelf_now out out_now name bytes result written ends task g forest accepts nr nw = go (ends_found request report shelf shelf_now out out_now name bytes result ends)
   where
-    go : IsExcused result ⊎ Found MayBe request bytes result → (result ≡ NoMemory) ⊎ IsAnswered task.job g forest out out_now result
-    go (inl x) = inl (excused_ends request shelf shelf_now out out_now name bytes result nr nw ends x)
+    go : IsExcused result ⊎ Found MayBe request (marks_of report, bytes) result → (result ≡ NoMemory) ⊎ IsAnswered task.job g forest (marks_of report) out out_now result
+    go (inl x) = inl (excused_ends request report shelf shelf_now out out_now name bytes result nr nw ends x)
     go (inr (side, found, shows)) =
         let e : side ≡ Some (side_of task g forest) = same_found request side (Some (side_of task g forest)) found (accepted_found IsTold request task g forest accepts) in
-        let shown = shown_output task g forest bytes result (subst (λ s. Shows s bytes result) e shows) in
+        let shown = shown_output task g forest (marks_of report, bytes) result (subst (λ s. Shows s (marks_of report, bytes) result) e shows) in
         inr (record { covered = shown.0; bytes = bytes; output = shown.1; written = written; finishes = shown.2 })

@@ -1,5 +1,5 @@
 -- What a job knows of its crew.
-use Rattle.std.proofs.Common.{◌≡◌, List, ◌++◌, Option, Some, Result, Ok, Err, IfOk, OnOk, refl, sym, ap, subst, ◌∙◌}
+use Rattle.std.proofs.Common.{◌≡◌, List, [], ◌++◌, Option, Some, Result, Ok, Err, IfOk, OnOk, refl, sym, ap, subst, ◌∙◌}
 use Rattle.sel_grammar.specs.declared.grammar.Grammar.{Grammar}
 use Rattle.sel_forest.specs.declared.forest.Tree.{Tree}
 use Rattle.sel_items.specs.Laws.{IsAcceptedForm}
@@ -10,8 +10,10 @@ use Rattle.sel_closing.specs.SnapshotTables.{Room, table_of}
 use Rattle.sel_words.specs.declared.settings.Settings.{Settings}
 use Rattle.sel_crew.specs.declared.crew.Crew.{Crew}
 use Rattle.sel_crew.specs.declared.report.Report.{Report}
-use Rattle.sel_crew.specs.Crews.{IsCrew, HasAskedOnly, KeepsAll, CountsPlainOf, IsSameCrew, AsksOnlyMore, KeepsMore, CountsMore, grammar_of, normal_of, room_of}
+use Rattle.sel_crew.specs.Crews.{IsCrew, IsBegunWith, HasAskedOnly, KeepsAll, CountsPlainOf, IsSameCrew, AsksOnlyMore, KeepsMore, CountsMore, grammar_of, normal_of, room_of}
+use Rattle.sel_crew.specs.declared.options.Options.{Options}
 use Rattle.sel_crew.specs.Options.{room_by}
+use Rattle.sel_normal.specs.NormalForms.{NormalForm}
 use Rattle.sel_crew.specs.Reports.{TellsCounted, TellsWhole, TellsPlainNodes}
 use Rattle.sel_cli.specs.Crews.{HasAnswered, AnswersMore}
 use Rattle.sel_cli.specs.Reporting.{TellsOf, room_for}
@@ -26,6 +28,23 @@ answered_more trees old new crew same asked kept counted g settings given h = re
   kept = kept given h.kept;
   counted = counted given h.counted;
 }
+
+-- a crew that was begun has answered no trees
+begun_with : (g : Grammar) (settings : Settings) (normal : NormalForm) (options : Options) (c : Crew) → room_by options ≡ room_for settings → IsCrew c → IsBegunWith g normal options c → HasAskedOnly [] c → KeepsAll [] c
+    → CountsPlainOf [] c → HasAnswered g settings [] c
+begun_with g settings normal options c room crew begun asked kept counted = record {
+  crew = crew;
+  grammar_is = begun.grammar;
+  room_is = ap room_by begun.options_are ∙ room;
+  asked = asked;
+  kept = kept;
+  counted = counted;
+}
+
+pub begun_ok : {E : Type 0} (g : Grammar) (settings : Settings) (normal : NormalForm) (options : Options) (result : Result Crew E) → room_by options ≡ room_for settings → IfOk result IsCrew
+    → IfOk result (IsBegunWith g normal options) → IfOk result (HasAskedOnly []) → IfOk result (KeepsAll []) → IfOk result (CountsPlainOf []) → IfOk result (HasAnswered g settings [])
+begun_ok g settings normal options (Ok c) room crew begun asked kept counted = begun_with g settings normal options c room crew begun asked kept counted
+begun_ok g settings normal options (Err e) room crew begun asked kept counted = tt
 
 pub on_ok : {T E : Type 0} (P : Type 0) (result : Result T E) → P → OnOk result P
 on_ok P (Ok x) p = p

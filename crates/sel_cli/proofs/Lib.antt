@@ -1,6 +1,9 @@
+pub mod Batches
 pub mod Endings
+pub mod Going
 pub mod Writing
 pub mod Serving
 pub mod Decided
 pub mod Exits
 pub mod Joining
+pub mod Summaries

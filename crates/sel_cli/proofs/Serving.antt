@@ -5,12 +5,21 @@ use Rattle.sel_base.specs.Puts.{SinkTold}
 use Rattle.sel_base.specs.Reads.{LastRead, ShelfTold}
 use Rattle.sel_grammar.specs.declared.grammar.Grammar.{Grammar}
 use Rattle.sel_forest.specs.declared.forest.Forest.{Forest}
+use Rattle.sel_forest.specs.ForestText.{SpellsForest}
 use Rattle.sel_words.specs.declared.words.Mode.{Mode}
-use Rattle.sel_words.specs.Words.{Job, OverForest, Task, grammar_name, forest_name, last_name, later_name}
-use Rattle.sel_answers.specs.Output.{IsOutput}
+use Rattle.sel_words.specs.Words.{Job, PrintGrammar, OverForest, Task, grammar_name, forest_name, last_name, later_name}
+use Rattle.sel_crew.specs.declared.report.Report.{Report}
+use Rattle.sel_work.specs.declared.answer.Goal.{Goal}
+use Rattle.sel_work.specs.declared.answer.Goal.TheVariants as goals
+use Rattle.sel_words.specs.declared.settings.Settings.{Settings}
+use Rattle.sel_words.specs.declared.words.Mode.TheVariants as mode
+use Rattle.sel_answers.specs.Output.{TableMarks, IsOutput}
+use Rattle.sel_answers.specs.Reported.{marks_of}
 use Rattle.sel_cli.specs.Texts.{Request, MayBe, AcceptsGrammar, Accepts, forest_limit, request_of}
-use Rattle.sel_cli.specs.Ends.{StopsFor, WritesFor, EndsFor, WasRead, ReadsFor}
-use Rattle.sel_cli.specs.Parts.{ReadsText, StopsOver, WritesSome, Writes, WritesOver, Serves}
+use Rattle.sel_cli.specs.Ends.{StopsFor, WritesSome, DoesTask, EndsFor, WasRead, ReadsFor}
+use Rattle.sel_cli.specs.Parts.{ReadsText, StopsOver, Writes, WritesOver, DoesJob, DoesJobOver, AnswersJob, AnswersOver, SumsUpJob, IsForestInPrint, Serves}
+use Rattle.sel_cli.specs.Reporting.{TellsOf, ReportsFor, nothing_reported}
+use Rattle.sel_cli.specs.declared.jobs.reported.Reported.{Reported}
 use Rattle.sel_cli.specs.declared.status.Status.{Status}
 use Rattle.sel_cli.specs.declared.status.Status.TheVariants.{Done, Usage, ReadFault, TooBig, BadGrammar, BadForest, WriteFault, NoMemory, Uncovered}
 use Rattle.sel_cli.proofs.Writing.{nothing_taken, output_kept}
@@ -24,42 +33,28 @@ not_other : {T : Type 0} (status other : Status) → status ≢ other → IsErrO
 not_other status other differs e = absurd (differs (cc))
 
 -- a text was not read, or not accepted
-pub stop_serves : {T : Type 0} (wanted : Option Task) (read : Option (List ℕ)) (name : List ℕ) (shelf shelf_now : ShelfTold) (out : SinkTold) (status : Status)
-    → StopsFor (request_of wanted shelf) shelf shelf_now name status → ReadsText {T = T} wanted read (Err status) shelf shelf_now → Serves wanted shelf shelf_now out out name status
-stop_serves wanted read name shelf shelf_now out status stops r = record {
+pub stop_serves : {T : Type 0} (wanted : Option Task) (read : Option (List ℕ)) (name : List ℕ) (shelf shelf_now : ShelfTold) (out : SinkTold) (status : Status) (report : Report) → report ≡ nothing_reported
+    → StopsFor (request_of wanted shelf) shelf shelf_now name status → ReadsText {T = T} wanted read (Err status) shelf shelf_now → Serves wanted shelf shelf_now out out name status report
+stop_serves wanted read name shelf shelf_now out status report none stops r = record {
   bytes = [];
-  why = inl (refl, stops);
+  why = inl (refl, none, stops);
   written = nothing_taken out.taken;
   reads = record { unchanged = r.unchanged; later = r.later; quiet = λ differs. r.quiet (not_other status ReadFault differs); read = r.unread };
   writes = output_kept out status;
 }
 
 -- the shelf was asked for nothing
-pub unasked_serves : (wanted : Option Task) (name : List ℕ) (shelf : ShelfTold) (out : SinkTold) (status : Status)
-    → StopsFor (request_of wanted shelf) shelf shelf name status → ReadsFor wanted shelf.last status → Serves wanted shelf shelf out out name status
-unasked_serves wanted name shelf out status stops last = record {
+pub unasked_serves : (wanted : Option Task) (name : List ℕ) (shelf : ShelfTold) (out : SinkTold) (status : Status) (report : Report) → report ≡ nothing_reported
+    → StopsFor (request_of wanted shelf) shelf shelf name status → ReadsFor wanted shelf.last status → Serves wanted shelf shelf out out name status report
+unasked_serves wanted name shelf out status report none stops last = record {
   bytes = [];
-  why = inl (refl, stops);
+  why = inl (refl, none, stops);
   written = nothing_taken out.taken;
   reads = record { unchanged = refl; later = omega arith; quiet = λ no. refl; read = last };
   writes = output_kept out status;
 }
 
 -- ---- calls that write
-
--- an accepted task was done
-ends_by : (request : Request) (task : Task) (grammar : Grammar) (forest : Option Forest) (shelf shelf_now : ShelfTold) (out out_now : SinkTold) (name bytes : List ℕ) (status : Status)
-    → Accepts MayBe request task grammar forest → WritesSome (IsOutput task.job grammar forest) out out_now bytes status → EndsFor request shelf shelf_now out out_now name bytes status
-ends_by request task grammar forest shelf shelf_now out out_now name bytes WriteFault a w = inr (w.0, (task, grammar, forest, a, w.1))
-ends_by request task grammar forest shelf shelf_now out out_now name bytes NoMemory a (inl none) = inl (none, tt)
-ends_by request task grammar forest shelf shelf_now out out_now name bytes NoMemory a (inr front) = inr (task, grammar, forest, a, front)
-ends_by request task grammar forest shelf shelf_now out out_now name bytes Done a w = inr (task, grammar, forest, a, w)
-ends_by request task grammar forest shelf shelf_now out out_now name bytes Uncovered a w = inr (task, grammar, forest, a, w)
-ends_by request task grammar forest shelf shelf_now out out_now name bytes Usage a w = absurd w
-ends_by request task grammar forest shelf shelf_now out out_now name bytes ReadFault a w = absurd w
-ends_by request task grammar forest shelf shelf_now out out_now name bytes TooBig a w = absurd w
-ends_by request task grammar forest shelf shelf_now out out_now name bytes (BadGrammar fault) a w = absurd w
-ends_by request task grammar forest shelf shelf_now out out_now name bytes (BadForest fault) a w = absurd w
 
 -- and the last of its texts was the last that was read
 read_by : (Is : Bool → List ℕ → Type 0) (task : Task) (last : LastRead) (out out_now : SinkTold) (bytes : List ℕ) (status : Status)
@@ -74,31 +69,61 @@ read_by Is task last out out_now bytes TooBig r w = absurd w
 read_by Is task last out out_now bytes (BadGrammar fault) r w = absurd w
 read_by Is task last out out_now bytes (BadForest fault) r w = absurd w
 
--- the texts of a task were read and accepted, and its output was written
-pub done_serves : {T : Type 0} (x : T) (task : Task) (grammar : Grammar) (forest : Option Forest) (read : Option (List ℕ)) (name : List ℕ) (shelf shelf_now : ShelfTold) (out out_now : SinkTold) (status : Status)
+-- the texts of a task were read and accepted, and its job was done
+pub done_serves : {T : Type 0} (x : T) (task : Task) (grammar : Grammar) (forest : Option Forest) (read : Option (List ℕ)) (name : List ℕ) (shelf shelf_now : ShelfTold) (out out_now : SinkTold) (status : Status) (report : Report)
     → Accepts MayBe (request_of (Some task) shelf) task grammar forest → last_name task ≡ read → ReadsText (Some task) read (Ok x) shelf shelf_now
-    → Writes (IsOutput task.job grammar forest) out out_now status → Serves (Some task) shelf shelf_now out out_now name status
-done_serves x task grammar forest read name shelf shelf_now out out_now status a last r w = record {
-  bytes = w.bytes;
-  why = ends_by (request_of (Some task) shelf) task grammar forest shelf shelf_now out out_now name w.bytes status a w.why;
-  written = w.written;
+    → DoesJob task.settings task.job grammar forest out out_now status report → Serves (Some task) shelf shelf_now out out_now name status report
+done_serves x task grammar forest read name shelf shelf_now out out_now status report a last r d = record {
+  bytes = (d.writes).bytes;
+  why = inr (record { task = task; grammar = grammar; forest = forest; accepts = a; writes = (d.writes).why; reports = d.reports });
+  written = (d.writes).written;
   reads = record {
     unchanged = r.unchanged;
     later = r.later;
     quiet = λ no. r.quiet (not_ok x ReadFault);
-    read = read_by (IsOutput task.job grammar forest) task shelf_now.last out out_now w.bytes status (subst (λ n. IfSome n (WasRead shelf_now.last)) (sym last) r.read) w.why;
+    read = read_by (IsOutput task.job grammar forest (marks_of report)) task shelf_now.last out out_now (d.writes).bytes status (subst (λ n. IfSome n (WasRead shelf_now.last)) (sym last) r.read) (d.writes).why;
   };
-  writes = w.keeps;
+  writes = (d.writes).keeps;
 }
 
 -- a task whose job is this, over a grammar alone
-pub job_serves : {T : Type 0} (x : T) (task : Task) (job : Job) (grammar : Grammar) (name : List ℕ) (shelf shelf_now : ShelfTold) (out out_now : SinkTold) (status : Status)
+pub job_serves : {T : Type 0} (x : T) (task : Task) (job : Job) (grammar : Grammar) (name : List ℕ) (shelf shelf_now : ShelfTold) (out out_now : SinkTold) (status : Status) (report : Report)
     → task.job ≡ job → forest_name job ≡ None → AcceptsGrammar MayBe (request_of (Some task) shelf) task grammar → ReadsText (Some task) (grammar_name task) (Ok x) shelf shelf_now
-    → Writes (IsOutput job grammar None) out out_now status → Serves (Some task) shelf shelf_now out out_now name status
-job_serves x task job grammar name shelf shelf_now out out_now status is none a r w =
+    → DoesJob task.settings job grammar None out out_now status report → Serves (Some task) shelf shelf_now out out_now name status report
+job_serves x task job grammar name shelf shelf_now out out_now status report is none a r d =
     let alone : forest_name task.job ≡ None = ap forest_name is ∙ none in
-    done_serves x task grammar None (grammar_name task) name shelf shelf_now out out_now status (a, alone) (ap (λ n. later_name (grammar_name task) n) alone) r
-    (subst (λ j. Writes (IsOutput j grammar None) out out_now status) (sym is) w)
+    done_serves x task grammar None (grammar_name task) name shelf shelf_now out out_now status report (a, alone) (ap (λ n. later_name (grammar_name task) n) alone) r
+    (subst (λ j. DoesJob task.settings j grammar None out out_now status report) (sym is) d)
+
+-- the grammar in print
+pub grammar_printed : (settings : Settings) (grammar : Grammar) (out out_now : SinkTold) (status : Status) (report : Report) → report ≡ nothing_reported
+    → ((marks : TableMarks) → Writes (IsOutput PrintGrammar grammar None marks) out out_now status) → DoesJob settings PrintGrammar grammar None out out_now status report
+grammar_printed settings grammar out out_now status report none w = record { writes = w (marks_of report); reports = none }
+
+-- ---- what is done over a forest
+
+pub printed_over : (settings : Settings) (grammar : Grammar) (name text : List ℕ) (out out_now : SinkTold) (status : Status) (report : Report) → report ≡ nothing_reported
+    → WritesOver (IsForestInPrint grammar) grammar text out out_now status → DoesJobOver settings (OverForest mode.Print name) grammar text out out_now status report
+printed_over settings grammar name text out out_now status report none (inl (stops, same)) = inl (stops, same, none)
+printed_over settings grammar name text out out_now status report none (inr (forest, spelled, w)) =
+    inr (forest, spelled, record { writes = record { bytes = w.bytes; why = w.why; written = w.written; keeps = w.keeps }; reports = none })
+
+pub covers_over : (settings : Settings) (grammar : Grammar) (name text : List ℕ) (out out_now : SinkTold) (status : Status) (report : Report)
+    → AnswersOver settings grammar goals.Cover text out out_now status report → DoesJobOver settings (OverForest mode.Cover name) grammar text out out_now status report
+covers_over settings grammar name text out out_now status report (inl none) = inl none
+covers_over settings grammar name text out out_now status report (inr (forest, spelled, a)) =
+    inr (forest, spelled, record { writes = record { bytes = (a.writes).bytes; why = (a.writes).why; written = (a.writes).written; keeps = (a.writes).keeps }; reports = a.reports })
+
+pub texts_over : (settings : Settings) (grammar : Grammar) (name text : List ℕ) (out out_now : SinkTold) (status : Status) (report : Report)
+    → AnswersOver settings grammar goals.Text text out out_now status report → DoesJobOver settings (OverForest mode.Select name) grammar text out out_now status report
+texts_over settings grammar name text out out_now status report (inl none) = inl none
+texts_over settings grammar name text out out_now status report (inr (forest, spelled, a)) =
+    inr (forest, spelled, record { writes = record { bytes = (a.writes).bytes; why = (a.writes).why; written = (a.writes).written; keeps = (a.writes).keeps }; reports = a.reports })
+
+pub sums_over : (settings : Settings) (grammar : Grammar) (name text : List ℕ) (forest : Forest) (out out_now : SinkTold) (status : Status) (report : Report) → SpellsForest grammar text forest
+    → SumsUpJob settings grammar forest.trees out out_now status report → DoesJobOver settings (OverForest mode.Summary name) grammar text out out_now status report
+sums_over settings grammar name text forest out out_now status report spelled a =
+    inr (forest, spelled, record { writes = record { bytes = (a.writes).bytes; why = (a.writes).why; written = (a.writes).written; keeps = (a.writes).keeps }; reports = a.reports })
 
 -- ---- a task over a forest
 
@@ -134,19 +159,19 @@ refused_reads task grammar text last (BadGrammar fault) stops r = absurd stops
 refused_reads task grammar text last WriteFault stops r = absurd stops
 refused_reads task grammar text last Uncovered stops r = absurd stops
 
-pub over_serves : {T : Type 0} (x : T) (task : Task) (grammar : Grammar) (name text : List ℕ) (shelf shelf_now : ShelfTold) (out out_now : SinkTold) (status : Status)
+pub over_serves : {T : Type 0} (x : T) (task : Task) (grammar : Grammar) (name text : List ℕ) (shelf shelf_now : ShelfTold) (out out_now : SinkTold) (status : Status) (report : Report)
     → AcceptsGrammar MayBe (request_of (Some task) shelf) task grammar → forest_name task.job ≡ Some name → MayBe (shelf.held name) text → length text ≤ forest_limit
-    → ReadsText (Some task) (Some name) (Ok x) shelf shelf_now → WritesOver (λ forest. IsOutput task.job grammar (Some forest)) grammar text out out_now status
-    → Serves (Some task) shelf shelf_now out out_now name status
-over_serves {T} x task grammar name text shelf shelf_now out out_now status a n is within r = go
+    → ReadsText (Some task) (Some name) (Ok x) shelf shelf_now → DoesJobOver task.settings task.job grammar text out out_now status report
+    → Serves (Some task) shelf shelf_now out out_now name status report
+over_serves {T} x task grammar name text shelf shelf_now out out_now status report a n is within r = go
   where
     last : last_name task ≡ Some name
     last = ap (λ m. later_name (grammar_name task) m) n
 
-    go : WritesOver (λ forest. IsOutput task.job grammar (Some forest)) grammar text out out_now status → Serves (Some task) shelf shelf_now out out_now name status
-    go (inl (stops, same)) =
-        subst (λ sink. Serves (Some task) shelf shelf_now out sink name status) (sym same)
-        (stop_serves {T = T} (Some task) (Some name) name shelf shelf_now out status (refused_stops task grammar name text shelf shelf_now status a n is within stops)
+    go : DoesJobOver task.settings task.job grammar text out out_now status report → Serves (Some task) shelf shelf_now out out_now name status report
+    go (inl (stops, same, none)) =
+        subst (λ sink. Serves (Some task) shelf shelf_now out sink name status report) (sym same)
+        (stop_serves {T = T} (Some task) (Some name) name shelf shelf_now out status report none (refused_stops task grammar name text shelf shelf_now status a n is within stops)
         (record {
           unchanged = r.unchanged;
           later = r.later;
@@ -155,14 +180,26 @@ over_serves {T} x task grammar name text shelf shelf_now out out_now status a n 
           unread = refused_reads task grammar text shelf_now.last status stops (subst (λ m. IfSome m (WasRead shelf_now.last)) (sym last) r.read);
         }))
     go (inr (forest, spelled, w)) =
-        done_serves x task grammar (Some forest) (Some name) name shelf shelf_now out out_now status
+        done_serves x task grammar (Some forest) (Some name) name shelf shelf_now out out_now status report
         (record { name = name; text = text; has = record { accepts_grammar = a; is_named = n; is_text = is }; within = within; spelled = spelled }) last r w
 
 -- a job over a forest does what its mode says
-pub by_mode : (grammar : Grammar) (given mode : Mode) (text : List ℕ) (out out_now : SinkTold) (status : Status) (name : List ℕ) → given ≡ mode
-    → WritesOver (λ forest. IsOutput (OverForest mode name) grammar (Some forest)) grammar text out out_now status
-    → WritesOver (λ forest. IsOutput (OverForest given name) grammar (Some forest)) grammar text out out_now status
-by_mode grammar given mode text out out_now status name is w = subst (λ m. WritesOver (λ forest. IsOutput (OverForest m name) grammar (Some forest)) grammar text out out_now status) (sym is) w
+pub by_mode : (settings : Settings) (grammar : Grammar) (given mode : Mode) (text : List ℕ) (out out_now : SinkTold) (status : Status) (report : Report) (name : List ℕ) → given ≡ mode
+    → DoesJobOver settings (OverForest mode name) grammar text out out_now status report → DoesJobOver settings (OverForest given name) grammar text out out_now status report
+by_mode settings grammar given mode text out out_now status report name is w = subst (λ m. DoesJobOver settings (OverForest m name) grammar text out out_now status report) (sym is) w
+
+-- the print of a forest is reported without a table
+pub printed_reported : (settings : Settings) (grammar : Grammar) (name text : List ℕ) (out out_now : SinkTold) (status : Status) (r : Reported) → r ≡ record { status = status; report = nothing_reported }
+    → WritesOver (IsForestInPrint grammar) grammar text out out_now status → DoesJobOver settings (OverForest mode.Print name) grammar text out out_now r.status r.report
+printed_reported settings grammar name text out out_now status r is w =
+    subst (λ (x : Reported). DoesJobOver settings (OverForest mode.Print name) grammar text out out_now x.status x.report) (sym is) (printed_over settings grammar name text out out_now status nothing_reported refl w)
+
+-- what is served so is told so
+pub serves_as : (wanted : Option Task) (shelf shelf_now : ShelfTold) (out out_now : SinkTold) (name told : List ℕ) (status ended : Status) (report reported : Report) → told ≡ name → ended ≡ status → reported ≡ report
+    → Serves wanted shelf shelf_now out out_now name status report → Serves wanted shelf shelf_now out out_now told ended reported
+serves_as wanted shelf shelf_now out out_now name told status ended report reported n e r s =
+    subst (λ x. Serves wanted shelf shelf_now out out_now told ended x) (sym r)
+    (subst (λ x. Serves wanted shelf shelf_now out out_now told x report) (sym e) (subst (λ x. Serves wanted shelf shelf_now out out_now x status report) (sym n) s))
 
 -- ---- one part after another
 
@@ -183,9 +220,9 @@ stops_later wanted before middle now name status held faults stops = go status (
     go Uncovered s = absurd s
 
 -- a text was read, and then the rest was served
-pub then_serves : {T : Type 0} (x : T) (wanted : Option Task) (read : Option (List ℕ)) (before middle now : ShelfTold) (out out_now : SinkTold) (name : List ℕ) (status : Status)
-    → ReadsText wanted read (Ok x) before middle → Serves wanted middle now out out_now name status → Serves wanted before now out out_now name status
-then_serves x wanted read before middle now out out_now name status r s = record {
+pub then_serves : {T : Type 0} (x : T) (wanted : Option Task) (read : Option (List ℕ)) (before middle now : ShelfTold) (out out_now : SinkTold) (name : List ℕ) (status : Status) (report : Report)
+    → ReadsText wanted read (Ok x) before middle → Serves wanted middle now out out_now name status report → Serves wanted before now out out_now name status report
+then_serves x wanted read before middle now out out_now name status report r s = record {
   bytes = s.bytes;
   why = go s.why;
   written = s.written;
@@ -201,6 +238,6 @@ then_serves x wanted read before middle now out out_now name status r s = record
     same : middle.faults ≡ before.faults
     same = r.quiet (not_ok x ReadFault)
 
-    go : EndsFor (request_of wanted middle) middle now out out_now name s.bytes status → EndsFor (request_of wanted before) before now out out_now name s.bytes status
-    go (inl (none, stops)) = inl (none, stops_later wanted before middle now name status r.unchanged same stops)
-    go (inr w) = inr (subst (λ h. WritesFor (record { wanted = wanted; held = h }) out out_now s.bytes status) r.unchanged w)
+    go : EndsFor (request_of wanted middle) report middle now out out_now name s.bytes status → EndsFor (request_of wanted before) report before now out out_now name s.bytes status
+    go (inl (none, nothing, stops)) = inl (none, nothing, stops_later wanted before middle now name status r.unchanged same stops)
+    go (inr d) = inr (subst (λ h. DoesTask (record { wanted = wanted; held = h }) report out out_now s.bytes status) r.unchanged d)

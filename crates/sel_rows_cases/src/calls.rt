@@ -4,6 +4,7 @@ use crate::stop::Stop;
 use sel_base::NoMemory;
 use sel_sheet::{Answer, Calls, Row};
 use std::alloc::Global;
+use std::thread::Threads;
 
 /// The call `passes`: two passes label trees in turns.
 pub struct Cases;
@@ -16,7 +17,13 @@ fn called(alloc: Global, row: &Row<'_>) -> Result<String, Stop> {
 }
 
 impl Calls for Cases {
-    fn answer(&self, alloc: Global, row: &Row<'_>, _words: &str) -> Result<Answer, NoMemory> {
+    fn answer<Rt: Threads + Sync>(
+        &self,
+        _threads: &Rt,
+        alloc: Global,
+        row: &Row<'_>,
+        _words: &str,
+    ) -> Result<Answer, NoMemory> {
         match called(alloc, row) {
             Ok(text) => Answer::of_text(alloc, text.as_str()),
             Err(Stop::Fault(kind, line, column)) => {

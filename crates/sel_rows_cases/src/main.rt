@@ -13,5 +13,5 @@ use sel_sheet::run_sheets;
 use std::process::ExitCode;
 
 fn main(rt: HostRuntime) -> ExitCode {
-    run_sheets(&rt, &Cases)
+    run_sheets(&rt, &rt, &Cases)
 }

@@ -11,5 +11,5 @@ use std::process::ExitCode;
 use top_call::TopCall;
 
 fn main(rt: HostRuntime) -> ExitCode {
-    run_sheets(&rt, &TopCall { rt: &rt })
+    run_sheets(&rt, &rt, &TopCall)
 }

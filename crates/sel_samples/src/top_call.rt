@@ -21,10 +21,7 @@ const NO_MEMORY: u8 = 7;
 /// `run`, in a row without a line `call`; `read_words`, in one with `call words`; the trees that pass the gate of
 /// `run`, in one with `call gate`; and `run_program`, in one with `call program`, or with `call unread` where there
 /// is no memory for the words.
-#[derive(Clone, Copy)]
-pub struct TopCall<'r, Rt> {
-    pub rt: &'r Rt,
-}
+pub struct TopCall;
 
 // The line speaks of this fault where the status does.
 fn is_told(status: &Status, alloc: Global, err: &[u8]) -> Result<bool, NoMemory> {
@@ -69,7 +66,7 @@ fn outside_of(alloc: Global, row: &Row<'_>) -> Result<Outside, NoMemory> {
 }
 
 // How the top call ended.
-fn ended<Rt: Threads>(
+fn ended<Rt: Threads + Sync>(
     rt: &Rt,
     alloc: Global,
     row: &Row<'_>,
@@ -96,7 +93,7 @@ fn ended<Rt: Threads>(
 }
 
 // Which trees passed the gate of the top call.
-fn passed<Rt: Threads>(
+fn passed<Rt: Threads + Sync>(
     rt: &Rt,
     alloc: Global,
     row: &Row<'_>,
@@ -120,7 +117,7 @@ fn passed<Rt: Threads>(
 }
 
 // How the program exits with these words, or with none, since there was no memory for them.
-fn exited<Rt: Threads>(
+fn exited<Rt: Threads + Sync>(
     rt: &Rt,
     alloc: Global,
     row: &Row<'_>,
@@ -141,14 +138,20 @@ fn exited<Rt: Threads>(
     })
 }
 
-impl<'r, Rt: Threads> Calls for TopCall<'r, Rt> {
-    fn answer(&self, alloc: Global, row: &Row<'_>, words: &str) -> Result<Answer, NoMemory> {
+impl Calls for TopCall {
+    fn answer<Rt: Threads + Sync>(
+        &self,
+        threads: &Rt,
+        alloc: Global,
+        row: &Row<'_>,
+        words: &str,
+    ) -> Result<Answer, NoMemory> {
         match row.call {
             "words" => command_told(alloc, words),
-            "gate" => passed(self.rt, alloc, row, words),
-            "program" => exited(self.rt, alloc, row, Ok(words_of(alloc, words)?)),
-            "unread" => exited(self.rt, alloc, row, Err(NoMemory)),
-            _ => ended(self.rt, alloc, row, words),
+            "gate" => passed(threads, alloc, row, words),
+            "program" => exited(threads, alloc, row, Ok(words_of(alloc, words)?)),
+            "unread" => exited(threads, alloc, row, Err(NoMemory)),
+            _ => ended(threads, alloc, row, words),
         }
     }
 }

@@ -1,4 +1,6 @@
 // Runs the rows of sheets, and tells which aren't as wanted.
+ghost use Rattle.std.specs.Thread.{IsSync};
+
 use crate::answer::Answer;
 use crate::fault::SheetFault;
 use crate::row::Row;
@@ -7,6 +9,7 @@ use sel_base::{FileShelf, NoMemory, Shelf, ShelfFault};
 use std::alloc::Global;
 use std::env;
 use std::process::ExitCode;
+use std::thread::Threads;
 
 /// The greatest length of a sheet, in bytes.
 const LIMIT: usize = 16_777_216;
@@ -18,8 +21,15 @@ const BEFORE: usize = 60;
 
 /// The calls of which rows speak.
 pub trait Calls {
-    /// What the row's call gives with these words.
-    fn answer(&self, alloc: Global, row: &Row<'_>, words: &str) -> Result<Answer, NoMemory>;
+    /// What the row's call gives with these words, where threads are begun by `threads`.
+    fn answer<Rt: Threads + Sync>(
+        &self,
+        threads: &Rt,
+        alloc: Global,
+        row: &Row<'_>,
+        words: &str,
+    ) -> Result<Answer, NoMemory>
+        requires sync { IsSync Rt.row };
 }
 
 // What a row or a sheet came to, in words for people.
@@ -72,14 +82,15 @@ fn tell_answer(rt: &HostRuntime, alloc: Global, row: &Row<'_>, answer: &Answer) 
     tell_both(rt, alloc, "err", row.err.as_slice(), answer.err.as_slice());
 }
 
-fn is_as_wanted<C: Calls>(
+fn is_as_wanted<Rt: Threads + Sync, C: Calls>(
     rt: &HostRuntime,
+    threads: &Rt,
     alloc: Global,
     name: &str,
     row: &Row<'_>,
     calls: &C,
 ) -> Result<bool, NoMemory> {
-    let answer = calls.answer(alloc, row, row.words)?;
+    let answer = calls.answer(threads, alloc, row, row.words)?;
     if !row.is_as_told(&answer) {
         tell(rt, name, row.line, "not as wanted");
         tell_answer(rt, alloc, row, &answer);
@@ -92,7 +103,7 @@ fn is_as_wanted<C: Calls>(
     let Some(words) = row.beside else {
         return Ok(true);
     };
-    let other = calls.answer(alloc, row, words)?;
+    let other = calls.answer(threads, alloc, row, words)?;
     if answer.is_same(&other) {
         return Ok(true);
     }
@@ -100,8 +111,9 @@ fn is_as_wanted<C: Calls>(
     Ok(false)
 }
 
-fn are_as_wanted<C: Calls>(
+fn are_as_wanted<Rt: Threads + Sync, C: Calls>(
     rt: &HostRuntime,
+    threads: &Rt,
     alloc: Global,
     name: &str,
     text: &str,
@@ -111,13 +123,14 @@ fn are_as_wanted<C: Calls>(
     let rows = read_rows(alloc, &mut shelf, text)?;
     let mut are_wanted = !rows.is_empty();
     for row in rows.as_slice() {
-        are_wanted &= is_as_wanted(rt, alloc, name, row, calls)?;
+        are_wanted &= is_as_wanted(rt, threads, alloc, name, row, calls)?;
     }
     Ok(are_wanted)
 }
 
-fn is_text_as_wanted<C: Calls>(
+fn is_text_as_wanted<Rt: Threads + Sync, C: Calls>(
     rt: &HostRuntime,
+    threads: &Rt,
     alloc: Global,
     name: &str,
     bytes: &[u8],
@@ -127,7 +140,7 @@ fn is_text_as_wanted<C: Calls>(
         tell(rt, name, 0, "no text");
         return false;
     };
-    match are_as_wanted(rt, alloc, name, text, calls) {
+    match are_as_wanted(rt, threads, alloc, name, text, calls) {
         Ok(are_wanted) => are_wanted,
         Err(SheetFault::Line(line)) => {
             tell(rt, name, line, "no line of a row");
@@ -140,10 +153,16 @@ fn is_text_as_wanted<C: Calls>(
     }
 }
 
-fn is_sheet_as_wanted<C: Calls>(rt: &HostRuntime, alloc: Global, name: &str, calls: &C) -> bool {
+fn is_sheet_as_wanted<Rt: Threads + Sync, C: Calls>(
+    rt: &HostRuntime,
+    threads: &Rt,
+    alloc: Global,
+    name: &str,
+    calls: &C,
+) -> bool {
     let mut shelf = FileShelf::new(rt, alloc);
     match shelf.read(alloc, name, LIMIT) {
-        Ok(bytes) => is_text_as_wanted(rt, alloc, name, bytes.as_slice(), calls),
+        Ok(bytes) => is_text_as_wanted(rt, threads, alloc, name, bytes.as_slice(), calls),
         Err(ShelfFault::Failed | ShelfFault::TooBig | ShelfFault::NoMemory) => {
             tell(rt, name, 0, "not read");
             false
@@ -152,15 +171,20 @@ fn is_sheet_as_wanted<C: Calls>(rt: &HostRuntime, alloc: Global, name: &str, cal
 }
 
 /// Runs the rows of the sheets that the words of this process name, writes a line for each sheet, and ends with
-/// 0 where each row of each is as wanted.
-pub fn run_sheets<C: Calls>(rt: &HostRuntime, calls: &C) -> ExitCode {
+/// 0 where each row of each is as wanted. The calls begin their threads by `threads`, which is the process's own
+/// runtime too.
+pub fn run_sheets<Rt: Threads + Sync, C: Calls>(
+    rt: &HostRuntime,
+    threads: &Rt,
+    calls: &C,
+) -> ExitCode {
     let alloc = rt.alloc();
     let Ok(names) = env::args(rt) else {
         return ExitCode::FAILURE;
     };
     let mut are_wanted = true;
     for name in names.skip(1) {
-        let is_wanted = is_sheet_as_wanted(rt, alloc, name.as_str(), calls);
+        let is_wanted = is_sheet_as_wanted(rt, threads, alloc, name.as_str(), calls);
         let told = if is_wanted {
             "as wanted"
         } else {

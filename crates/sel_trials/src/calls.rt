@@ -12,6 +12,7 @@ use crate::words::{fit, packed};
 use sel_base::NoMemory;
 use sel_sheet::{Answer, Calls, Row};
 use std::alloc::Global;
+use std::thread::Threads;
 
 /// The calls of the crates below the top call.
 #[derive(Clone, Copy)]
@@ -64,7 +65,13 @@ fn answered(alloc: Global, told: Result<Vec<u8>, Stop>) -> Result<Answer, NoMemo
 }
 
 impl Calls for Trials {
-    fn answer(&self, alloc: Global, row: &Row<'_>, _words: &str) -> Result<Answer, NoMemory> {
+    fn answer<Rt: Threads + Sync>(
+        &self,
+        _threads: &Rt,
+        alloc: Global,
+        row: &Row<'_>,
+        _words: &str,
+    ) -> Result<Answer, NoMemory> {
         answered(alloc, called(alloc, row))
     }
 }

@@ -22,5 +22,5 @@ use sel_sheet::run_sheets;
 use std::process::ExitCode;
 
 fn main(rt: HostRuntime) -> ExitCode {
-    run_sheets(&rt, &Trials)
+    run_sheets(&rt, &rt, &Trials)
 }

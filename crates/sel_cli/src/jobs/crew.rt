@@ -1,5 +1,5 @@
 // The crew that answers a job's trees, from its beginning to its report.
-ghost use Rattle.std.specs.Prelude.{List, IfOk};
+ghost use Rattle.std.specs.Prelude.{List, [], IfOk};
 ghost use Rattle.sel_forest.specs.declared.forest.Tree.{Tree as AnyTree};
 ghost use Rattle.sel_grammar.specs.declared.grammar.Grammar.{Grammar};
 ghost use Rattle.sel_items.specs.Laws.{IsAcceptedForm};

@@ -48,19 +48,19 @@ fn sum_made<Rt: Threads + Sync, G: Gate>(
     rt: &Rt,
     alloc: Global,
     crew: &mut Crew<'_>,
-    mut maker: TreeMaker<'_>,
+    maker: &mut TreeMaker<'_>,
     gate: &G,
 ) -> Result<Summing, NoMemory>
     requires crew { IsCrew crew.old }
-    requires grammar { (maker.entry).grammar ≡ grammar_of crew.old }
-    requires few { (maker.entry).left ≤ most_trees }
+    requires grammar { maker.old.grammar ≡ grammar_of crew.old }
+    requires few { maker.old.left ≤ most_trees }
     ensures crew { IsCrew crew.new }
-    ensures made { IfOk result (λ sums. (trees : List AnyTree) × AreToCome maker.entry trees × SumsUpTrees (grammar_of crew.old) trees sums
+    ensures made { IfOk result (λ sums. (trees : List AnyTree) × AreToCome maker.old trees × SumsUpTrees (grammar_of crew.old) trees sums
         × AreValid (grammar_of crew.old) trees × AnswersMore trees crew.old crew.new) }
 {
     let mut sums = Summing::NONE;
     'batches: loop {
-        let batch = next_batch(alloc, &mut maker)?;
+        let batch = next_batch(alloc, maker)?;
         if batch.is_empty() {
             return Ok(sums);
         }
@@ -87,11 +87,11 @@ pub fn make<Rt: Threads + Sync, K: Sink, G: Gate>(
     };
     let trees = settings.trees as u32;
     let size = settings.size as u32;
-    let maker = match TreeMaker::new(alloc, &accepted.grammar, settings.seed, trees, size) {
+    let mut maker = match TreeMaker::new(alloc, &accepted.grammar, settings.seed, trees, size) {
         Ok(maker) => maker,
         Err(NoMemory) => return Reported::without(Status::NoMemory),
     };
-    match sum_made(rt, alloc, &mut crew, maker, gate) {
+    match sum_made(rt, alloc, &mut crew, &mut maker, gate) {
         Ok(sums) => write_summary(alloc, accepted, crew, sums, out),
         Err(NoMemory) => Reported::without(Status::NoMemory),
     }

@@ -1,7 +1,7 @@
 // The accepted grammar in print.
 ghost use Rattle.std.specs.Prelude.{None};
 ghost use Rattle.sel_words.specs.Words.{PrintGrammar};
-ghost use Rattle.sel_answers.specs.Output.{IsOutput};
+ghost use Rattle.sel_answers.specs.Output.{IsOutput, TableMarks};
 ghost use Rattle.sel_cli.specs.Parts.{Writes};
 
 use crate::jobs::writing::write_output;
@@ -13,7 +13,7 @@ use std::alloc::Global;
 
 /// Prints the accepted grammar.
 pub fn print_grammar<K: Sink>(alloc: Global, grammar: &Grammar, out: &mut K) -> Status
-    ensures done { Writes (IsOutput PrintGrammar grammar.now None) (K.told out.old) (K.told out.new) result }
+    ensures done { (marks : TableMarks) → Writes (IsOutput PrintGrammar grammar.now None marks) (K.told out.old) (K.told out.new) result }
 {
     match grammar_output(alloc, grammar) {
         Ok(output) => write_output(out, &output),

@@ -16,7 +16,7 @@ returns-in-Ok-clause-run g c =
     let same : c.deref.result.now ≡ c.in-Ok.words.items = search rules in
     let e = c.run.ensures in
     subst (λ r. IfOk r (λ words. ExitsFor (command (map string_bytes words.items)) shelf shelf_now out out_now err err_now c.code.result)) (sym c.in-Ok.is)
-    (exits _ _ shelf shelf_now out out_now err err_now c.run.result.0 c.code.result (ap (λ l. command (map string_bytes l)) same)
+    (exits _ _ shelf shelf_now out out_now err err_now c.run.result.0 c.run.result.1 c.code.result (ap (λ l. command (map string_bytes l)) same)
     (record { ends = e.ends; exactly = e.exactly; complete = e.complete; reads = e.reads; writes = e.writes; tells = e.tells }) c.code.ensures)
 
 pub returns-in-Ok-clause-untouched : goal.returns-in-Ok-clause-untouched
