@@ -29,7 +29,7 @@ kids_next normal k op rule h =
     let at : normal_at normal (suc k) ≡ Some rule = subst (λ n. normal_at normal n ≡ Some rule) e h in
     kids_drop normal.rules k op rule at ∙ ap (λ n. or_else (kids_in rule.body op) (kids_by (drop n normal.rules) op)) (sym e)
 
-get_range : (n a k : ℕ) → k < n → slice_get (range_with_len a n) k ≡ Some (a + k)
+pub get_range : (n a k : ℕ) → k < n → slice_get (range_with_len a n) k ≡ Some (a + k)
 get_range zero a k h = absurd (omega arith)
 get_range (suc n) a zero h = let e : a ≡ a + 0 = omega arith in ap Some e
 get_range (suc n) a (suc k) h = let e : a + 1 + k ≡ a + suc k = omega arith in get_range n (a + 1) k (omega arith) ∙ ap Some e
@@ -177,3 +177,7 @@ below_same normal xs ys (suc op) h =
 
 pub all_same : (normal : NormalForm) (xs ys : List Items) → length xs ≡ length ys → length (all_keys normal xs) ≡ length (all_keys normal ys)
 all_same normal xs ys h = below_same normal xs ys most_operators h
+
+-- all operators
+pub whole_start : (normal : NormalForm) (xs : List Items) (op n : ℕ) → most_operators ≤ op → op ≤ most_operators → key_start normal xs op ≡ n → length (all_keys normal xs) ≡ n
+whole_start normal xs op n h k e = let q : op ≡ most_operators = omega arith in subst (λ o. key_start normal xs o ≡ n) q e

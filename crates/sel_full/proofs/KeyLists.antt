@@ -22,26 +22,26 @@ use Rattle.sel_full.proofs.Arities.{used_has}
 use Rattle.sel_full.proofs.Reaching.{reach_is_exact}
 use Rattle.sel_full.proofs.Uses.{used_first, few_by}
 
-among_left : {A : Type 0} (xs ys : List A) (x : A) → IsOneOf xs x → IsOneOf (xs ++ ys) x
+pub among_left : {A : Type 0} (xs ys : List A) (x : A) → IsOneOf xs x → IsOneOf (xs ++ ys) x
 among_left [] ys x (k, h) = absurd (some_none (sym h))
 among_left (y ∷ xs) ys x (zero, h) = (0, h)
 among_left (y ∷ xs) ys x (suc k, h) = let (j, e) = among_left xs ys x (k, h) in (suc j, e)
 
-among_right : {A : Type 0} (xs ys : List A) (x : A) → IsOneOf ys x → IsOneOf (xs ++ ys) x
+pub among_right : {A : Type 0} (xs ys : List A) (x : A) → IsOneOf ys x → IsOneOf (xs ++ ys) x
 among_right [] ys x h = h
 among_right (y ∷ xs) ys x h = let (j, e) = among_right xs ys x h in (suc j, e)
 
-among_map : {A B : Type 0} (f : A → B) (xs : List A) (x : A) → IsOneOf xs x → IsOneOf (map f xs) (f x)
+pub among_map : {A B : Type 0} (f : A → B) (xs : List A) (x : A) → IsOneOf xs x → IsOneOf (map f xs) (f x)
 among_map f [] x (k, h) = absurd (some_none (sym h))
 among_map f (y ∷ xs) x (zero, h) = (0, ap (λ y. Some (f y)) (some_same h))
 among_map f (y ∷ xs) x (suc k, h) = let (j, e) = among_map f xs x (k, h) in (suc j, e)
 
-among_flat : {A B : Type 0} (f : A → List B) (xs : List A) (x : A) (y : B) → IsOneOf xs x → IsOneOf (f x) y → IsOneOf (flat_map f xs) y
+pub among_flat : {A B : Type 0} (f : A → List B) (xs : List A) (x : A) (y : B) → IsOneOf xs x → IsOneOf (f x) y → IsOneOf (flat_map f xs) y
 among_flat f [] x y (k, h) w = absurd (some_none (sym h))
 among_flat f (z ∷ xs) x y (zero, h) w = among_left (f z) (flat_map f xs) y (subst (λ z. IsOneOf (f z) y) (sym (some_same h)) w)
 among_flat f (z ∷ xs) x y (suc k, h) w = among_right (f z) (flat_map f xs) y (among_flat f xs x y (k, h) w)
 
-among_range : (n a x : ℕ) → a ≤ x → x < a + n → IsOneOf (range_with_len a n) x
+pub among_range : (n a x : ℕ) → a ≤ x → x < a + n → IsOneOf (range_with_len a n) x
 among_range zero a x h k = absurd (omega arith)
 among_range (suc n) a x h k = go (first a x h) (λ l. among_range n (a + 1) x l (omega arith))
   where

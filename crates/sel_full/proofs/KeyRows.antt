@@ -20,7 +20,7 @@ take_next [] k x h = absurd (some_none (sym h))
 take_next (y ∷ xs) zero x h = ap (λ y. y ∷ []) (some_same h)
 take_next (y ∷ xs) (suc k) x h = ap (λ zs. y ∷ zs) (take_next xs k x h)
 
-range_next : (n a : ℕ) → range_with_len a (suc n) ≡ range_with_len a n ++ (a + n) ∷ []
+pub range_next : (n a : ℕ) → range_with_len a (suc n) ≡ range_with_len a n ++ (a + n) ∷ []
 range_next zero a = let e : a ≡ a + 0 = omega arith in ap (λ b. b ∷ []) e
 range_next (suc n) a = let e : a + 1 + n ≡ a + suc n = omega arith in ap (λ ys. a ∷ ys) (range_next n (a + 1) ∙ ap (λ b. range_with_len (a + 1) n ++ b ∷ []) e)
 

@@ -1,6 +1,10 @@
 pub mod Automata
+pub mod Builds
+pub mod Finding
 pub mod Laws
+pub mod Numbering
 pub mod Reach
 pub mod Starts
 pub mod Tables
 pub mod TableTexts
+pub mod Taking

@@ -1,4 +1,5 @@
 //! Laws of complete tables. The functions do nothing: their contracts say them.
+ghost use Rattle.sel_full.specs.Builds.{CompleteIsNotTooLarge};
 ghost use Rattle.sel_full.specs.Laws.{ReachedFollow, ReachIsExact, TablesAreClosed, TablesHoldTrees, KeysHavePlaces, UnusedAreEmpty, StateKeysFollow, TreesAreReady};
 
 /// What follows from a key over reached item sets is reached.
@@ -37,4 +38,10 @@ pub fn state_keys_follow()
 /// takes no step, and each label is numbered.
 pub fn trees_are_ready()
     ensures { TreesAreReady }
+{}
+
+/// No table is complete where its grammar's reach is too large: so a build answers each exactly where its
+/// definition says so.
+pub fn complete_is_not_too_large()
+    ensures { CompleteIsNotTooLarge }
 {}

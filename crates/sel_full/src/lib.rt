@@ -2,11 +2,19 @@
 #![tactic(auto)]
 
 mod automaton;
+mod building;
+mod gap;
+mod keeping;
 pub mod laws;
+mod numbering;
 mod places;
 mod print;
+mod states;
+mod stop;
 mod table;
+mod taking;
 
 pub use automaton::FullAutomaton;
+pub use building::build;
 pub use print::print_table;
-pub use table::Table;
+pub use table::{Build, Table};

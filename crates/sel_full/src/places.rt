@@ -89,6 +89,17 @@ pub fn class_count(classes: &Classes) -> usize
 /// The class at a place among those that some attribute has.
 pub fn class_at(classes: &Classes, place: usize) -> u16
     requires { place < length (occurring classes.now) }
+    ensures is { slice_get (occurring classes.now) place ≡ Some result }
+    ensures occurs { Occurs classes.now result }
+{
+    let class = class_by_place(classes, place);
+    let _ = classes.occurs(class);
+    class
+}
+
+/// The class at a place, behind 0 those from that of the least number on.
+fn class_by_place(classes: &Classes, place: usize) -> u16
+    requires { place < length (occurring classes.now) }
     ensures { slice_get (occurring classes.now) place ≡ Some result }
 {
     let first = first_class(classes);
@@ -125,7 +136,8 @@ pub fn class_place(classes: &Classes, class: u16) -> usize
 /// How many keys an operator with so many kids has over so many states.
 pub fn key_count_of(normal: &Normal, states: usize, kids: Option<u8>) -> usize
     requires fits { (k : ℕ) → kids ≡ Some k → 2 ≤ k → states * states < 2 ^ 64 }
-    ensures { (xs : List Items) (op : ℕ) → length xs ≡ states → length (keys_with normal.now xs op kids) ≡ result }
+    ensures is { (xs : List Items) (op : ℕ) → length xs ≡ states → length (keys_with normal.now xs op kids) ≡ result }
+    ensures few { states ≤ 65536 → result ≤ 4294967296 }
 {
     match kids {
         None => 0,

@@ -9,3 +9,10 @@ pub struct Table {
     pub states: List<Items>,
     pub numbers: List<u16>,
 }
+
+/// What a build answers.
+#[derive(Debug, Drop)]
+pub enum Build {
+    Complete(Table),
+    TooLarge,
+}

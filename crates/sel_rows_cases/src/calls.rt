@@ -1,4 +1,5 @@
 // The calls of the rows.
+use crate::meetings::Game;
 use crate::playing::passes;
 use crate::stop::Stop;
 use sel_base::NoMemory;
@@ -6,12 +7,13 @@ use sel_sheet::{Answer, Calls, Row};
 use std::alloc::Global;
 use std::thread::Threads;
 
-/// The call `passes`: two passes label trees in turns.
+/// The calls `passes`, two passes label trees in turns, and `meeting`, they meet at a leaf.
 pub struct Cases;
 
 fn called(alloc: Global, row: &Row<'_>) -> Result<String, Stop> {
     match row.call {
-        "passes" => passes(alloc, row),
+        "passes" => passes(alloc, row, Game::Turns),
+        "meeting" => passes(alloc, row, Game::Meeting),
         _ => Err(Stop::Unfit("there is no such call")),
     }
 }

@@ -4,6 +4,8 @@
 
 mod accepted;
 mod calls;
+mod meeting;
+mod meetings;
 mod playing;
 mod stop;
 mod turns;

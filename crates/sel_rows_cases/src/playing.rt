@@ -4,8 +4,8 @@ ghost use Rattle.sel_forest.specs.Valid.{IsValidForest};
 ghost use Rattle.sel_items.specs.Laws.{IsAcceptedForm};
 
 use crate::accepted::{Accepted, accept, forest_of, text_of};
+use crate::meetings::{Game, take_all};
 use crate::stop::Stop;
-use crate::turns::take_turns;
 use sel_base::{List, Steps};
 use sel_forest::Forest;
 use sel_rows::{Pass, Rows};
@@ -21,6 +21,7 @@ fn play<L: Ledger>(
     accepted: &Accepted,
     forest: &Forest,
     room: (u32, u32),
+    game: Game,
     turns: &[u8],
 ) -> Result<String, Stop>
     requires name { blank.name ≡ L.name }
@@ -43,7 +44,8 @@ fn play<L: Ledger>(
     };
     let mut first = Pass::new(&rows, &accepted.normal, first);
     let mut second = Pass::new(&rows, &accepted.normal, second);
-    take_turns(
+    take_all(
+        game,
         &mut first,
         &mut second,
         alloc,
@@ -70,9 +72,9 @@ fn room_of(words: &str) -> Option<(u32, u32)> {
     Some((states, rows))
 }
 
-/// The trees of the row's file `f` are labelled by two passes, in the turns of its file `turns`, over a table with
-/// room for the states and transitions that the words say.
-pub fn passes(alloc: Global, row: &Row<'_>) -> Result<String, Stop> {
+/// Two passes play with the trees of the row's file `f`, in the turns of its file `turns`, over a table with room
+/// for the states and transitions that the words say.
+pub fn passes(alloc: Global, row: &Row<'_>, game: Game) -> Result<String, Stop> {
     let accepted = accept(alloc, row)?;
     let forest = forest_of(alloc, &accepted.grammar, row)?;
     let turns = text_of(row, "turns")?;
@@ -88,6 +90,7 @@ pub fn passes(alloc: Global, row: &Row<'_>) -> Result<String, Stop> {
         &accepted,
         &forest,
         (states, rows),
+        game,
         turns,
     )
 }

@@ -43,7 +43,7 @@ fn put_pass(text: &mut String, pass: &Pass<'_>, labels: &Labels) -> Result<(), N
     Ok(())
 }
 
-fn turn<L: Ledger>(
+pub fn turn<L: Ledger>(
     pass: &mut Pass<'_>,
     alloc: Global,
     accepted: &Accepted,

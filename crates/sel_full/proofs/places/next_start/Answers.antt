@@ -8,7 +8,7 @@ key_count_of-count-requires c = record { fits = λ k is two. pairs_fit c.args.no
 
 pub overflow_add-result : goal.overflow_add-result
 overflow_add-result c =
-    let e = c.key_count_of-count.ensures c.args.states.now c.args.operator refl in
+    let e = c.key_count_of-count.ensures.is c.args.states.now c.args.operator refl in
     let q = ap (λ o. length (keys_with c.args.normal.now c.args.states.now c.args.operator o)) c.requires.kids in
     let w = start_within c.args.normal.now c.args.states.now c.args.operator _ refl c.requires.below in
     let f = c.requires.fits in
@@ -18,5 +18,5 @@ overflow_add-result c =
 pub returns : goal.returns
 returns c =
     ap (λ n. n + c.key_count_of-count.result) c.requires.at
-    ∙ (ap (λ n. key_start c.args.normal.now c.args.states.now c.args.operator + n) (sym (c.key_count_of-count.ensures c.args.states.now c.args.operator refl) ∙ ap (λ o. length (keys_with c.args.normal.now c.args.states.now c.args.operator o)) c.requires.kids)
+    ∙ (ap (λ n. key_start c.args.normal.now c.args.states.now c.args.operator + n) (sym (c.key_count_of-count.ensures.is c.args.states.now c.args.operator refl) ∙ ap (λ o. length (keys_with c.args.normal.now c.args.states.now c.args.operator o)) c.requires.kids)
     ∙ sym (start_next c.args.normal.now c.args.states.now c.args.operator))
