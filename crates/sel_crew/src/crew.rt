@@ -7,6 +7,8 @@ ghost use Rattle.sel_crew.specs.Answers.{AreAnswersOf};
 ghost use Rattle.sel_crew.specs.Crews.{grammar_of, IsCrew, IsBegunWith, IsNewCrew, HasAskedOnly, KeepsAll, CountsPlainOf, IsSameCrew, KeepsMarks, AsksOnlyMore, KeepsMore, CountsMore};
 ghost use Rattle.sel_crew.specs.Options.{AreLawful};
 
+use crate::batch::answer_at;
+use crate::making::place_all;
 use crate::options::Options;
 use crate::place::Place;
 use sel_base::{Gate, List, NoMemory};
@@ -45,7 +47,21 @@ impl<'c> Crew<'c> {
         ensures kept { IfOk result (KeepsAll []) }
         ensures counted { IfOk result (CountsPlainOf []) }
     {
-        Err(NoMemory)
+        let (rows, parts) = Rows::new(
+            alloc,
+            normal,
+            options.states,
+            options.rows,
+            options.workers,
+        )?;
+        let places = place_all(alloc, &rows, parts)?;
+        Ok(Crew {
+            grammar,
+            normal,
+            options,
+            rows,
+            places,
+        })
     }
 
     /// The answers of the trees, in their order. The gate is passed round each tree, with the worker's number and the
@@ -72,6 +88,16 @@ impl<'c> Crew<'c> {
         ensures answered { OnOk result (KeepsMore trees.now self.old self.new) }
         ensures counted { OnOk result (CountsMore trees.now self.old self.new) }
     {
-        Err(NoMemory)
+        answer_at(
+            rt,
+            alloc,
+            (self.grammar, self.normal),
+            &self.rows,
+            self.places.as_mut_slice(),
+            trees,
+            first,
+            goal,
+            gate,
+        )
     }
 }

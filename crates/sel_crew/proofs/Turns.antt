@@ -1,0 +1,141 @@
+-- How what a worker has done grows, number by number.
+use Rattle.std.proofs.Common.{◌≡◌, ◌⊎◌, inl, inr, ⊎_elim, ℕ, ◌+◌, ◌-◌, ◌^◌, Bool, true, false, Some, List, [], ◌∷◌, ◌++◌, map, refl, sym, ap, subst, ◌∙◌}
+use Rattle.std.specs.Prelude.{slice_get, min}
+use Rattle.sel_forest.specs.declared.forest.Tree.{Tree}
+use Rattle.sel_items.specs.Automata.{KeepsMark}
+use Rattle.sel_law.specs.Words.{In}
+use Rattle.sel_law.proofs.Base.{in_nil, in_split, in_one}
+use Rattle.sel_rows.specs.declared.part.PassPart.{PassPart}
+use Rattle.sel_rows.specs.Counts.{counted}
+use Rattle.sel_rows.specs.Parts.{part_used_up}
+use Rattle.sel_tickets.specs.Tickets.{Drawn, with_number, new_drawn}
+use Rattle.sel_work.specs.Kept.{AreTabledKept}
+use Rattle.sel_closing.specs.Asking.{told_of_part, AsksOnly, TellsMore}
+use Rattle.sel_closing.specs.Untabled.{CountsUntabled, AreTreesAt}
+use Rattle.sel_closing.proofs.Adding.{stopped_counts_add_up}
+use Rattle.sel_closing.proofs.Keeping.{tells_same, tells_then, kept_still}
+use Rattle.sel_crew.specs.declared.place.Made.{Made}
+use Rattle.sel_crew.specs.declared.task.Task.{Task}
+use Rattle.sel_crew.specs.declared.turn.Turn.{Turn}
+use Rattle.sel_crew.specs.Crews.{IsSeated}
+use Rattle.sel_crew.specs.Tasks.{IsMade, IsTaken, Took, Begins, InTurn, HasServed, numbers_of}
+use Rattle.sel_crew.proofs.Gathered.{trees_at_both, same_some}
+use Rattle.sel_crew.proofs.Lists.{map_append}
+
+was_false : (old new : Bool) → KeepsMark old new → new ≡ false → old ≡ false
+was_false true new k f = let t = k refl in cc
+was_false false new k f = refl
+
+-- a worker that begins has done nothing
+pub begun : (t : Task) (u : Turn) → Begins t u → InTurn t u.part u
+begun t u b = record {
+  seated = b.seated;
+  of = ap (λ (d : Drawn). d.of) b.drawer;
+  one = ap (λ (d : Drawn). d.seats) b.drawer;
+  more = tells_same (told_of_part u.part);
+  asks = λ given a. a;
+  each = λ m i. absurd (in_nil m (subst (In m) b.made i));
+  numbers = λ none. ap numbers_of b.made ∙ sym (ap (λ (d : Drawn). d.numbers) b.drawer);
+  kept = λ none n tree i at. absurd (in_nil n (subst (In n) (ap (λ (d : Drawn). d.numbers) b.drawer) i));
+  tally = λ none left. (
+      [],
+      subst (λ ns. AreTreesAt t.trees.now ns []) (sym (ap (λ (d : Drawn). d.numbers) b.drawer)) tt,
+      subst (CountsUntabled t.grammar.now []) (sym b.plain) (stopped_counts_add_up t.grammar.now).0,
+  );
+}
+
+-- where a number is drawn and no tree answered yet, that is all that holds still
+pub record HasDrawn (t : Task) (old : PassPart) (n : ℕ) (before now : Turn) : Type 0 where
+  pub served : InTurn t old before
+  pub fresh : before.refused ≡ false
+  pub part : now.part ≡ before.part
+  pub drawer : now.drawer ≡ with_number before.drawer n
+  pub made : now.made.items ≡ before.made.items
+  pub plain : now.plain_nodes ≡ before.plain_nodes
+
+each_taken : (t : Task) (n : ℕ) (before after : Turn) (was : List Made) → before.made.items ≡ was → ((m : Made) → In m was → IsMade t m) → IsTaken t n before after → (m : Made) → In m after.made.items → IsMade t m
+each_taken t n before after was e each taken m i = ⊎_elim
+    (λ (a : In m before.made.items). each m (subst (In m) e a))
+    (λ (b : In m (taken.made ∷ [])). subst (IsMade t) (in_one m taken.made b) (taken.tree, ap (slice_get t.trees.now) taken.number ∙ taken.is_tree, taken.answer))
+    (in_split m before.made.items (taken.made ∷ []) (subst (In m) taken.put i))
+
+each_after : (t : Task) (n : ℕ) (before after : Turn) (was : List Made) → before.made.items ≡ was → ((m : Made) → In m was → IsMade t m) → Took t n before after → (b : Bool) → after.refused ≡ b → (m : Made) → In m after.made.items → IsMade t m
+each_after t n before after was e each took true r m i = each m (subst (In m) e (subst (In m) (took.left r) i))
+each_after t n before after was e each took false r m i = each_taken t n before after was e each (took.taken r) m i
+
+numbers_after : (t : Task) (n : ℕ) (before now after : Turn) (old : PassPart) → HasDrawn t old n before now → Took t n now after → after.refused ≡ false → numbers_of after.made.items ≡ after.drawer.numbers
+numbers_after t n before now after old h took none =
+    let taken = took.taken none in
+    ap numbers_of taken.put
+    ∙ (map_append (λ (m : Made). m.number) now.made.items (taken.made ∷ [])
+    ∙ (ap (λ k. numbers_of now.made.items ++ k ∷ []) taken.number
+    ∙ (ap (λ l. numbers_of l ++ n ∷ []) h.made
+    ∙ (ap (λ l. l ++ n ∷ []) ((h.served).numbers h.fresh)
+    ∙ (sym (ap (λ (d : Drawn). d.numbers) h.drawer)
+    ∙ sym (ap (λ (d : Drawn). d.numbers) took.drawer))))))
+
+drawn_after : (t : Task) (n : ℕ) (before now after : Turn) (old : PassPart) → HasDrawn t old n before now → Took t n now after → after.drawer.numbers ≡ before.drawer.numbers ++ n ∷ []
+drawn_after t n before now after old h took = ap (λ (d : Drawn). d.numbers) took.drawer ∙ ap (λ (d : Drawn). d.numbers) h.drawer
+
+grown_after : (t : Task) (n : ℕ) (before now after : Turn) (old : PassPart) → HasDrawn t old n before now → Took t n now after → TellsMore (told_of_part before.part) (told_of_part after.part)
+grown_after t n before now after old h took = subst (λ p. TellsMore (told_of_part p) (told_of_part after.part)) h.part took.more
+
+kept_after : (t : Task) (n : ℕ) (before now after : Turn) (old : PassPart) → HasDrawn t old n before now → Took t n now after → after.refused ≡ false
+    → (k : ℕ) (tree : Tree) → In k after.drawer.numbers → slice_get t.trees.now k ≡ Some tree → AreTabledKept t.grammar.now tree.nodes (told_of_part after.part)
+kept_after t n before now after old h took none k tree i at =
+    let taken = took.taken none in
+    ⊎_elim
+        (λ (a : In k before.drawer.numbers). kept_still t.grammar.now tree.nodes (told_of_part before.part) (told_of_part after.part) (grown_after t n before now after old h took) ((h.served).kept h.fresh k tree a at))
+        (λ (b : In k (n ∷ [])).
+            let same : Some taken.tree ≡ Some tree = sym taken.is_tree ∙ (ap (slice_get t.trees.now) (in_one k n b) ∙ at) in
+            subst (λ (x : Tree). AreTabledKept t.grammar.now x.nodes (told_of_part after.part)) (same_some taken.tree tree same) taken.kept)
+        (in_split k before.drawer.numbers (n ∷ []) (subst (In k) (drawn_after t n before now after old h took) i))
+
+tally_after : (t : Task) (n : ℕ) (before now after : Turn) (old : PassPart) → HasDrawn t old n before now → Took t n now after → after.refused ≡ false → part_used_up after.part ≡ false
+    → (drawn : List Tree) × AreTreesAt t.trees.now after.drawer.numbers drawn × CountsUntabled t.grammar.now drawn after.plain_nodes
+tally_after t n before now after old h took none left =
+    let taken = took.taken none in
+    let was = (h.served).tally h.fresh (was_false (part_used_up before.part) (part_used_up after.part) (grown_after t n before now after old h took).used_up left) in
+    (
+      was.0 ++ taken.tree ∷ [],
+      subst (λ ns. AreTreesAt t.trees.now ns (was.0 ++ taken.tree ∷ [])) (sym (drawn_after t n before now after old h took))
+          (trees_at_both t.trees.now before.drawer.numbers (n ∷ []) was.0 (taken.tree ∷ []) was.1 (taken.is_tree, tt)),
+      subst (CountsUntabled t.grammar.now (was.0 ++ taken.tree ∷ [])) (ap (λ k. counted k taken.more_plain) (sym h.plain) ∙ sym taken.plain) (taken.counts left was.0 before.plain_nodes was.2),
+    )
+
+pub taken_after : (t : Task) (n : ℕ) (before now after : Turn) (old : PassPart) → HasDrawn t old n before now → Took t n now after → InTurn t old after
+taken_after t n before now after old h took =
+    let s = h.served in
+    record {
+      seated = took.seated;
+      of = ap (λ (d : Drawn). d.of) took.drawer ∙ (ap (λ (d : Drawn). d.of) h.drawer ∙ s.of);
+      one = ap (λ (d : Drawn). d.seats) took.drawer ∙ (ap (λ (d : Drawn). d.seats) h.drawer ∙ s.one);
+      more = tells_then (told_of_part old) (told_of_part before.part) (told_of_part after.part) s.more (grown_after t n before now after old h took);
+      asks = λ given a. took.asks given (subst (λ p. AsksOnly t.grammar.now (given ++ t.trees.now) (told_of_part p)) (sym h.part) (s.asks given a));
+      each = each_after t n now after before.made.items h.made s.each took after.refused refl;
+      numbers = numbers_after t n before now after old h took;
+      kept = kept_after t n before now after old h took;
+      tally = tally_after t n before now after old h took;
+    }
+
+-- and so it is where the worker finds no tree left
+pub left_after : (t : Task) (old : PassPart) (before after : Turn) (drawer : Drawn) → InTurn t old before → after.part ≡ before.part → after.drawer ≡ drawer → after.made.items ≡ before.made.items → after.plain_nodes ≡ before.plain_nodes → after.refused ≡ before.refused
+    → drawer.of ≡ before.drawer.of → drawer.seats ≡ before.drawer.seats → drawer.numbers ≡ before.drawer.numbers → InTurn t old after
+left_after t old before after drawer s part is made plain refused of one numbers =
+    let drawn : before.drawer.numbers ≡ after.drawer.numbers = sym (ap (λ (d : Drawn). d.numbers) is ∙ numbers) in
+    let none : after.refused ≡ false → before.refused ≡ false = λ r. sym refused ∙ r in
+    record {
+      seated = subst (λ p. IsSeated t.rows.now p) (sym part) s.seated;
+      of = ap (λ (d : Drawn). d.of) is ∙ (of ∙ s.of);
+      one = ap (λ (d : Drawn). d.seats) is ∙ (one ∙ s.one);
+      more = subst (λ p. TellsMore (told_of_part old) (told_of_part p)) (sym part) s.more;
+      asks = λ given a. subst (λ p. AsksOnly t.grammar.now (given ++ t.trees.now) (told_of_part p)) (sym part) (s.asks given a);
+      each = λ m i. s.each m (subst (In m) made i);
+      numbers = λ r. ap numbers_of made ∙ (s.numbers (none r) ∙ drawn);
+      kept = λ r n tree i at. subst (λ p. AreTabledKept t.grammar.now tree.nodes (told_of_part p)) (sym part) (s.kept (none r) n tree (subst (In n) (sym drawn) i) at);
+      tally = λ r left. (let w = s.tally (none r) (ap part_used_up (sym part) ∙ left) in (
+        w.0,
+        subst (λ ns. AreTreesAt t.trees.now ns w.0) drawn w.1,
+        subst (CountsUntabled t.grammar.now w.0) (sym plain) w.2,
+      ));
+    }

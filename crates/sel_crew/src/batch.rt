@@ -1,0 +1,95 @@
+//! All workers of a batch.
+ghost use Rattle.std.specs.Prelude.{◌≡◌, ◌+◌, ◌<◌, ◌≤◌, ◌^◌, length, IfOk, OnOk};
+ghost use Rattle.sel_items.specs.Laws.{IsAcceptedForm};
+ghost use Rattle.sel_rows.specs.Tables.{setting_of};
+ghost use Rattle.sel_count.specs.Things.{AreValid};
+ghost use Rattle.sel_crew.specs.Answers.{AreAnswersOf};
+ghost use Rattle.sel_crew.specs.Batches.{IsAfterBatch, IsWholeBatch};
+ghost use Rattle.sel_crew.specs.Crews.{lasting_at, AreManned};
+ghost use Rattle.sel_crew.specs.Tasks.{IsTask, IsReady, HasWorked, AreReady, HaveWorked};
+
+use crate::gathering::{gather, is_refused, room_for};
+use crate::place::Place;
+use crate::seats::seat_all;
+use crate::task::Task;
+use crate::worker::work;
+use sel_base::{Gate, List, NoMemory};
+use sel_forest::Tree;
+use sel_grammar::Grammar;
+use sel_normal::Normal;
+use sel_rows::Rows;
+use sel_tickets::Tickets;
+use sel_work::{Answer, Goal};
+use std::alloc::Global;
+use std::thread::{Threads, for_each_mut};
+
+/// Lets each place's worker answer trees until no number is left.
+pub fn work_all<Rt: Threads + Sync, G: Gate + Sync>(
+    rt: &Rt,
+    task: &Task<'_>,
+    gate: &G,
+    places: &mut [Place],
+)
+    requires task { IsTask task.now }
+    requires some { 0 < length places.old }
+    requires ready { AreReady task.now places.old }
+    ensures { HaveWorked task.now places.old places.new }
+{
+    let threads = places.len();
+    for_each_mut(
+        rt,
+        places,
+        threads,
+        &|_, place: &mut Place|
+            requires { IsTask task.now × IsReady task.now place.now }
+            ensures { HasWorked task.entry.now place.entry.now place.exit.now }
+        { work(task, gate, place) },
+    );
+}
+
+/// The answers of the trees, in their order, by the workers of the places. Room for all of them is taken before a worker
+/// begins.
+pub fn answer_at<Rt: Threads + Sync, G: Gate + Sync>(
+    rt: &Rt,
+    alloc: Global,
+    forms: (&Grammar, &Normal),
+    rows: &Rows,
+    places: &mut [Place],
+    trees: &[Tree],
+    first: u32,
+    goal: Goal,
+    gate: &G,
+) -> Result<List<Answer>, NoMemory>
+    requires form { IsAcceptedForm forms.0.now forms.1.now }
+    requires normal { (setting_of rows.now).normal.value ≡ forms.1.now }
+    requires manned { AreManned rows.now (lasting_at places.old) }
+    requires some { (0 < length places.old) × (length places.old ≤ 64) }
+    requires trees { AreValid forms.0.now trees.now }
+    requires last { first + length trees.now < 2 ^ 32 }
+    ensures after { IsAfterBatch rows.now forms.0.now trees.now (lasting_at places.old) (lasting_at places.new) }
+    ensures answers { IfOk result (AreAnswersOf forms.0.now goal trees.now) }
+    ensures whole { OnOk result (IsWholeBatch forms.0.now trees.now (lasting_at places.old) (lasting_at places.new)) }
+{
+    let mut answers = room_for(alloc, trees.len())?;
+    let seats = places.len() as u32 + 1;
+    let (tickets, mut drawer) = Tickets::new(alloc, trees.len() as u32, seats)?;
+    seat_all(&tickets, places, &mut drawer);
+    let task = Task {
+        alloc,
+        grammar: forms.0,
+        normal: forms.1,
+        rows,
+        trees,
+        tickets: &tickets,
+        goal,
+        first,
+    };
+    work_all(rt, &task, gate, places);
+    let refused = is_refused(places);
+    gather(&tickets, places, &mut drawer, &mut answers);
+    if refused {
+        return Err(NoMemory);
+    }
+    tickets.close(drawer);
+    Ok(answers)
+}
