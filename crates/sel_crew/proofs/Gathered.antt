@@ -43,9 +43,9 @@ all_answers : (g : Grammar) (goal : Goal) (trees : List Tree) (answers : List An
     → ((k : ℕ) (tree : Tree) (a : Answer) → slice_get trees k ≡ Some tree → slice_get answers k ≡ Some a → IsAnswerOf g goal tree a)
     → AreAnswersOf g goal trees answers
 all_answers g goal [] [] long each = tt
-all_answers g goal [] (a ∷ as) long each = absurd (omega arith)
+all_answers g goal [] (a ∷ rest) long each = absurd (omega arith)
 all_answers g goal (x ∷ xs) [] long each = absurd (omega arith)
-all_answers g goal (x ∷ xs) (a ∷ as) long each = (each 0 x a refl refl, all_answers g goal xs as (omega arith) (λ k. each (suc k)))
+all_answers g goal (x ∷ xs) (a ∷ rest) long each = (each 0 x a refl refl, all_answers g goal xs rest (omega arith) (λ k. each (suc k)))
 
 pub same_some : {A : Type 0} (x y : A) → Some x ≡ Some y → x ≡ y
 same_some x y e = ap (λ (o : Option _). or_one x o) e
@@ -125,8 +125,8 @@ counted_at t (p ∷ ps) (q ∷ qs) w none left =
     }
 
 not_true : (b : Bool) → (b ≡ true → ⊥) → b ≡ false
-not_true true no = absurd (no refl)
-not_true false no = refl
+not_true true never = absurd (never refl)
+not_true false never = refl
 
 pub whole_batch : (t : Task) (ps qs : List Place) → HaveWorked t ps qs → NoneRefused qs → IsEachOnce (length t.trees.now) (numbers_of (made_at qs)) → IsWholeBatch t.grammar.now t.trees.now (lasting_at ps) (lasting_at qs)
 whole_batch t ps qs w none once = record {

@@ -1,6 +1,8 @@
 -- How what a worker has done grows, number by number.
-use Rattle.std.proofs.Common.{◌≡◌, ◌⊎◌, inl, inr, ⊎_elim, ℕ, ◌+◌, ◌-◌, ◌^◌, Bool, true, false, Some, List, [], ◌∷◌, ◌++◌, map, refl, sym, ap, subst, ◌∙◌}
+use Rattle.std.proofs.Common.{◌≡◌, ◌⊎◌, inl, inr, ⊎_elim, ℕ, zero, suc, ◌+◌, ◌-◌, ◌<◌, ◌^◌, Bool, true, false, Some, Result, IfOk, List, length, [], ◌∷◌, ◌++◌, map, refl, sym, ap, subst, ◌∙◌, arith}
 use Rattle.std.specs.Prelude.{slice_get, min}
+use Rattle.std.proofs.lemmas.Option.{slice_get_within}
+use Rattle.sel_base.specs.declared.fault.NoMemory.{NoMemory}
 use Rattle.sel_forest.specs.declared.forest.Tree.{Tree}
 use Rattle.sel_items.specs.Automata.{KeepsMark}
 use Rattle.sel_law.specs.Words.{In}
@@ -9,7 +11,9 @@ use Rattle.sel_rows.specs.declared.part.PassPart.{PassPart}
 use Rattle.sel_rows.specs.Counts.{counted}
 use Rattle.sel_rows.specs.Parts.{part_used_up}
 use Rattle.sel_tickets.specs.Tickets.{Drawn, with_number, new_drawn}
+use Rattle.sel_work.specs.declared.answer.Answered.{Answered}
 use Rattle.sel_work.specs.Kept.{AreTabledKept}
+use Rattle.sel_count.proofs.Elements.{IsOneOf, contains}
 use Rattle.sel_closing.specs.Asking.{told_of_part, AsksOnly, TellsMore}
 use Rattle.sel_closing.specs.Untabled.{CountsUntabled, AreTreesAt}
 use Rattle.sel_closing.proofs.Adding.{stopped_counts_add_up}
@@ -18,9 +22,9 @@ use Rattle.sel_crew.specs.declared.place.Made.{Made}
 use Rattle.sel_crew.specs.declared.task.Task.{Task}
 use Rattle.sel_crew.specs.declared.turn.Turn.{Turn}
 use Rattle.sel_crew.specs.Crews.{IsSeated}
-use Rattle.sel_crew.specs.Tasks.{IsMade, IsTaken, Took, Begins, InTurn, HasServed, numbers_of}
+use Rattle.sel_crew.specs.Tasks.{GrowsBy, CountsTree, IsAnswered, KeepsAnswer, IsMade, IsTaken, Took, Begins, InTurn, HasServed, numbers_of}
 use Rattle.sel_crew.proofs.Gathered.{trees_at_both, same_some}
-use Rattle.sel_crew.proofs.Lists.{map_append}
+use Rattle.sel_crew.proofs.Lists.{contains_back, map_append}
 
 was_false : (old new : Bool) → KeepsMark old new → new ≡ false → old ≡ false
 was_false true new k f = let t = k refl in cc
@@ -139,3 +143,53 @@ left_after t old before after drawer s part is made plain refused of one numbers
         subst (CountsUntabled t.grammar.now w.0) (sym plain) w.2,
       ));
     }
+
+at_place : {A : Type 0} (xs : List A) (k : ℕ) (x : A) → slice_get xs k ≡ Some x → IsOneOf x xs
+at_place [] k x e = let lt = slice_get_within [] k x e in absurd (omega arith)
+at_place (y ∷ xs) zero x e = inl (same_some y x e)
+at_place (y ∷ xs) (suc k) x e = inr (at_place xs k x e)
+
+asks_of_task : (t : Task) (n : ℕ) (tree : Tree) (old new : PassPart) → slice_get t.trees.now n ≡ Some tree → GrowsBy t.grammar.now tree old new
+    → (given : List Tree) → AsksOnly t.grammar.now (given ++ t.trees.now) (told_of_part old) → AsksOnly t.grammar.now (given ++ t.trees.now) (told_of_part new)
+asks_of_task t n tree old new at grows given a = grows.asks (given ++ t.trees.now) (contains_back tree given t.trees.now (contains t.trees.now tree (at_place t.trees.now n tree at))) a
+
+taken_is : (t : Task) (n : ℕ) (before after : Turn) (tree : Tree) (r : Result Answered NoMemory) (more : ℕ) → slice_get t.trees.now n ≡ Some tree → IfOk r (IsAnswered t.grammar.now t.goal tree after.part)
+    → KeepsAnswer before.made.items after.made.items n r more → after.plain_nodes ≡ counted before.plain_nodes more → IsTaken t n before after
+taken_is t n before after tree r more at answered keeps plain =
+    let a = keeps.0 in
+    let is : IsAnswered t.grammar.now t.goal tree after.part a = subst (λ x. IfOk x (IsAnswered t.grammar.now t.goal tree after.part)) keeps.1 answered in
+    record {
+      tree = tree;
+      is_tree = at;
+      made = record { number = n; answer = a.answer };
+      number = refl;
+      answer = is.answer;
+      put = keeps.3;
+      kept = is.kept;
+      more_plain = more;
+      plain = plain;
+      counts = subst (CountsTree t.grammar.now tree after.part) (sym keeps.2) is.plain;
+    }
+
+pub took_kept : (t : Task) (n : ℕ) (before after : Turn) (tree : Tree) (r : Result Answered NoMemory) (more : ℕ) → slice_get t.trees.now n ≡ Some tree → IsSeated t.rows.now after.part → GrowsBy t.grammar.now tree before.part after.part
+    → IfOk r (IsAnswered t.grammar.now t.goal tree after.part) → KeepsAnswer before.made.items after.made.items n r more → after.drawer ≡ before.drawer → after.plain_nodes ≡ counted before.plain_nodes more → after.refused ≡ false
+    → Took t n before after
+took_kept t n before after tree r more at seated grows answered keeps drawer plain fresh = record {
+  seated = seated;
+  drawer = drawer;
+  more = grows.more;
+  asks = asks_of_task t n tree before.part after.part at grows;
+  taken = λ none. taken_is t n before after tree r more at answered keeps plain;
+  left = λ yes. absurd (let e : true ≡ false = sym yes ∙ fresh in cc);
+}
+
+pub took_none : (t : Task) (n : ℕ) (before after : Turn) (tree : Tree) → slice_get t.trees.now n ≡ Some tree → IsSeated t.rows.now after.part → GrowsBy t.grammar.now tree before.part after.part
+    → after.made.items ≡ before.made.items → after.drawer ≡ before.drawer → after.refused ≡ true → Took t n before after
+took_none t n before after tree at seated grows made drawer refused = record {
+  seated = seated;
+  drawer = drawer;
+  more = grows.more;
+  asks = asks_of_task t n tree before.part after.part at grows;
+  taken = λ none. absurd (let e : true ≡ false = sym refused ∙ none in cc);
+  left = λ yes. made;
+}

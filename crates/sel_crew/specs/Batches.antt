@@ -5,7 +5,7 @@ use Rattle.sel_forest.specs.declared.forest.Tree.{Tree}
 use Rattle.sel_law.specs.Words.{In}
 use Rattle.sel_rows.specs.declared.part.PassPart.{PassPart}
 use Rattle.sel_rows.specs.declared.rows.Rows.{Rows}
-use Rattle.sel_rows.specs.Parts.{part_used_up}
+use Rattle.sel_rows.specs.Parts.{part_used_up, part_row_full}
 use Rattle.sel_closing.specs.Asking.{PartsAskOnly, PartsKeep, PartsTellMore}
 use Rattle.sel_closing.specs.Untabled.{CountsUntabled}
 use Rattle.sel_crew.specs.Crews.{Lasting, AreManned, parts_in, plain_in}
@@ -13,6 +13,10 @@ use Rattle.sel_crew.specs.Crews.{Lasting, AreManned, parts_in, plain_in}
 -- one of the parts is used up
 abbrev pub AnyUsedUp : List PassPart → Type 0
 AnyUsedUp parts = (p : PassPart) × In p parts × (part_used_up p ≡ true)
+
+-- for one of them a walk found no place
+abbrev pub AnyRowFull : List PassPart → Type 0
+AnyRowFull parts = (p : PassPart) × In p parts × (part_row_full p ≡ true)
 
 -- Each place is manned still, nothing is lost, and only keys of the trees were asked besides.
 pub record IsAfterBatch (rows : Rows) (g : Grammar) (trees : List Tree) (old new : List Lasting) : Type 0 where

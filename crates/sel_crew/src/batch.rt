@@ -52,7 +52,8 @@ pub fn work_all<Rt: Threads + Sync, G: Gate + Sync>(
 pub fn answer_at<Rt: Threads + Sync, G: Gate + Sync>(
     rt: &Rt,
     alloc: Global,
-    forms: (&Grammar, &Normal),
+    grammar: &Grammar,
+    normal: &Normal,
     rows: &Rows,
     places: &mut [Place],
     trees: &[Tree],
@@ -60,15 +61,15 @@ pub fn answer_at<Rt: Threads + Sync, G: Gate + Sync>(
     goal: Goal,
     gate: &G,
 ) -> Result<List<Answer>, NoMemory>
-    requires form { IsAcceptedForm forms.0.now forms.1.now }
-    requires normal { (setting_of rows.now).normal.value ≡ forms.1.now }
+    requires form { IsAcceptedForm grammar.now normal.now }
+    requires normal { (setting_of rows.now).normal.value ≡ normal.now }
     requires manned { AreManned rows.now (lasting_at places.old) }
     requires some { (0 < length places.old) × (length places.old ≤ 64) }
-    requires trees { AreValid forms.0.now trees.now }
+    requires trees { AreValid grammar.now trees.now }
     requires last { first + length trees.now < 2 ^ 32 }
-    ensures after { IsAfterBatch rows.now forms.0.now trees.now (lasting_at places.old) (lasting_at places.new) }
-    ensures answers { IfOk result (AreAnswersOf forms.0.now goal trees.now) }
-    ensures whole { OnOk result (IsWholeBatch forms.0.now trees.now (lasting_at places.old) (lasting_at places.new)) }
+    ensures after { IsAfterBatch rows.now grammar.now trees.now (lasting_at places.old) (lasting_at places.new) }
+    ensures answers { IfOk result (AreAnswersOf grammar.now goal trees.now) }
+    ensures whole { OnOk result (IsWholeBatch grammar.now trees.now (lasting_at places.old) (lasting_at places.new)) }
 {
     let mut answers = room_for(alloc, trees.len())?;
     let seats = places.len() as u32 + 1;
@@ -76,8 +77,8 @@ pub fn answer_at<Rt: Threads + Sync, G: Gate + Sync>(
     seat_all(&tickets, places, &mut drawer);
     let task = Task {
         alloc,
-        grammar: forms.0,
-        normal: forms.1,
+        grammar,
+        normal,
         rows,
         trees,
         tickets: &tickets,

@@ -91,7 +91,8 @@ impl<'c> Crew<'c> {
         answer_at(
             rt,
             alloc,
-            (self.grammar, self.normal),
+            self.grammar,
+            self.normal,
             &self.rows,
             self.places.as_mut_slice(),
             trees,

@@ -6,7 +6,6 @@ ghost use Rattle.sel_crew.specs.Tasks.{IsTask, GrowsBy, IsAnswered};
 
 use crate::task::Task;
 use sel_base::{NoMemory, Steps};
-use sel_closing::laws::{answers_ask_only, passes_tell_of_parts, plain_counts_add_up};
 use sel_expand::Expander;
 use sel_forest::Tree;
 use sel_rows::{Pass, PassPart};

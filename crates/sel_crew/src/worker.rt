@@ -1,5 +1,6 @@
 //! A worker: it draws numbers and answers their trees.
-ghost use Rattle.std.specs.Prelude.{◌≡◌, ◌<◌, ◌∷◌, ◌++◌, [], length, IfSome, IfNone};
+ghost use Rattle.std.specs.Prelude.{◌≡◌, ◌<◌, length, IfSome, IfNone};
+ghost use Rattle.sel_crew.specs.Crews.{IsSeated};
 ghost use Rattle.sel_crew.specs.Tasks.{IsTask, IsReady, HasWorked, Begins, Serves, Took, KeepsAnswer};
 
 use crate::place::{Made, Place};
@@ -44,7 +45,7 @@ fn answer_number<L: Ledger, G: Gate>(
     steps: &mut Steps<L>,
 ) -> Turn
     requires task { IsTask task.now }
-    requires turn { Begins task.now turn }
+    requires turn { IsSeated task.now.rows.now turn.part }
     requires number { number < length task.now.trees.now }
     ensures { Took task.now number turn result }
 {
@@ -90,7 +91,6 @@ fn serve<L: Ledger, G: Gate>(
 ) -> Turn
     requires task { IsTask task.now }
     requires turn { Begins task.now turn }
-    requires fresh { turn.refused ≡ false }
     ensures { Serves task.now turn result }
 {
     let mut turn = turn;

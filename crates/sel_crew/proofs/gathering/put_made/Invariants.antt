@@ -3,11 +3,11 @@ use Rattle.sel_crew.specs.declared.place.Made.{Made}
 use Rattle.sel_crew.specs.Gathering.{AreBelow, PutsMade}
 use Rattle.sel_crew.proofs.gathering.put_made.Given as goal
 
-abbrev pub invariant-loop-made : goal.invariant-loop-made
-invariant-loop-made l = record {
+abbrev pub invariant-made : goal.invariant-made
+invariant-made l = record {
   below : AreBelow (length l.answers) l.made.items;
   puts : (done : List Made) × (l.initial.made.items ≡ l.made.items ++ done) × PutsMade done l.initial.answers l.answers;
 }
 
-abbrev pub decreases-loop-made : goal.decreases-loop-made
-decreases-loop-made l = vec_len l.made
+abbrev pub decreases-made : goal.decreases-made
+decreases-made l = vec_len l.made
