@@ -7,3 +7,4 @@ pub mod Puts
 pub mod Trees
 pub mod Turns
 pub mod Worked
+pub mod Works

@@ -9,7 +9,7 @@ use Rattle.sel_work.specs.declared.answer.Answer.{Answer}
 use Rattle.sel_crew.specs.declared.place.Made.{Made}
 use Rattle.sel_crew.specs.Gathering.{IsPut, LacksNumber, PutsMade}
 
-set_long : (xs : List Answer) (k : ℕ) (a : Answer) → length (slice_set xs k a) ≡ length xs
+pub set_long : (xs : List Answer) (k : ℕ) (a : Answer) → length (slice_set xs k a) ≡ length xs
 set_long [] k a = refl
 set_long (x ∷ xs) zero a = refl
 set_long (x ∷ xs) (suc k) a = ap suc (set_long xs k a)
@@ -40,6 +40,7 @@ answer_of a (Some b) = b
 answer_of a None = a
 
 pub puts_more : (m : Made) (done : List Made) (old now new : List Answer) → new ≡ slice_set now m.number m.answer → PutsMade done old now → PutsMade (m ∷ done) old new
+unfolding answer_of
 puts_more m done old now new e puts = subst (PutsMade (m ∷ done) old) (sym e) (record { long = set_long now m.number m.answer ∙ puts.long; each = each })
   where
     in_cons : (x : Made) → In x (m ∷ done) → (m ≡ x) ⊎ In x done

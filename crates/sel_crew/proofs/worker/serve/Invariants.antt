@@ -10,4 +10,4 @@ invariant-numbers g l = record {
 }
 
 abbrev pub decreases-numbers : goal.decreases-numbers
-decreases-numbers g l = length l.task.trees - length l.turn.drawer.numbers
+decreases-numbers g l = length l.task.trees.now - length l.turn.drawer.numbers
