@@ -3,6 +3,7 @@ use Rattle.std.proofs.Common.{◌≡◌, ◌+◌, ◌-◌, ◌^◌, ◌<◌, ◌
 use Rattle.std.specs.Prelude.{min}
 use Rattle.sel_grammar.specs.declared.grammar.Grammar.{Grammar}
 use Rattle.sel_forest.specs.declared.forest.Tree.{Tree}
+use Rattle.sel_normal.specs.NormalForms.{NormalForm}
 use Rattle.sel_law.specs.Words.{In}
 use Rattle.sel_rows.specs.declared.part.PassPart.{PassPart}
 use Rattle.sel_rows.specs.declared.snapshot.Snapshot.{Snapshot}
@@ -20,10 +21,12 @@ use Rattle.sel_closing.proofs.Adding.{stopped_counts_add_up}
 use Rattle.sel_closing.proofs.Closing.{snapshots_tell}
 use Rattle.sel_closing.proofs.Keeping.{parts_still_keep, parts_keep_both}
 use Rattle.sel_crew.specs.declared.crew.Crew.{Crew}
+use Rattle.sel_crew.specs.declared.options.Options.{Options}
 use Rattle.sel_crew.specs.declared.place.Place.{Place}
 use Rattle.sel_crew.specs.declared.report.Report.{Report}
 use Rattle.sel_crew.specs.Batches.{AnyUsedUp, AnyRowFull, IsAfterBatch, IsWholeBatch}
-use Rattle.sel_crew.specs.Crews.{Lasting, lasting_at, lasting_of, parts_in, parts_of, plain_in, plain_nodes_of, grammar_of, normal_of, room_of, options_of, IsCrew, IsUsedUp, IsRowFull, HasAskedOnly, KeepsAll, CountsPlainOf, KeepsMarks, AsksOnlyMore, KeepsMore, CountsMore}
+use Rattle.sel_crew.specs.Crews.{Lasting, lasting_at, lasting_of, parts_in, parts_of, plain_in, plain_nodes_of, grammar_of, normal_of, room_of, options_of, IsCrew, IsBegunWith, IsSameCrew, IsUsedUp, IsRowFull, HasAskedOnly, KeepsAll, CountsPlainOf, KeepsMarks, AsksOnlyMore, KeepsMore, CountsMore}
+use Rattle.sel_crew.specs.Options.{room_by}
 use Rattle.sel_crew.specs.Reports.{IsReportOf, TellsCounted, TellsWhole, TellsPlainNodes}
 use Rattle.sel_crew.proofs.Lists.{append_none, map_long}
 use Rattle.sel_crew.proofs.Places.{manned_parts, manned_seats}
@@ -92,3 +95,23 @@ true_is_not_false b f t = absurd (let e : true ≡ false = sym t ∙ f in cc)
 
 pub tells_plain : (c : Crew) (report : Report) → IsReportOf c report → (trees : List Tree) → CountsPlainOf trees c → TellsPlainNodes (grammar_of c) trees report
 tells_plain c report is trees counts unmarked = subst (CountsUntabled (grammar_of c) trees) (sym is.plain_nodes) (counts (λ u. true_is_not_false report.used_up unmarked (is.closing.marks.numbers.1 u)))
+
+module _ (g : Grammar) (normal : NormalForm) (options : Options) (d : Crew) (begun : IsBegunWith g normal options d) (trees : List Tree) (report : Report) where
+  pub counted_for : AreValid g trees → HasAskedOnly trees d → ((ts : List Tree) → AreValid (grammar_of d) ts → HasAskedOnly ts d → TellsCounted (grammar_of d) (normal_of d) (room_of d) ts report) → TellsCounted g normal (room_by options) trees report
+  counted_for valid asks tells =
+      subst (λ x. TellsCounted x normal (room_by options) trees report) begun.grammar
+      (subst (λ x. TellsCounted (grammar_of d) x (room_by options) trees report) begun.normal_is
+      (subst (λ o. TellsCounted (grammar_of d) (normal_of d) (room_by o) trees report) begun.options_are
+      (tells trees (subst (λ x. AreValid x trees) (sym begun.grammar) valid) asks)))
+
+  pub whole_for : AreValid g trees → HasAskedOnly trees d → KeepsAll trees d → ((ts : List Tree) → AreValid (grammar_of d) ts → HasAskedOnly ts d → KeepsAll ts d → TellsWhole (grammar_of d) (room_of d) ts report) → TellsWhole g (room_by options) trees report
+  whole_for valid asks kept tells =
+      subst (λ x. TellsWhole x (room_by options) trees report) begun.grammar
+      (subst (λ o. TellsWhole (grammar_of d) (room_by o) trees report) begun.options_are
+      (tells trees (subst (λ x. AreValid x trees) (sym begun.grammar) valid) asks kept))
+
+  pub plain_for : CountsPlainOf trees d → ((ts : List Tree) → CountsPlainOf ts d → TellsPlainNodes (grammar_of d) ts report) → TellsPlainNodes g trees report
+  plain_for counts tells = subst (λ x. TellsPlainNodes x trees report) begun.grammar (tells trees counts)
+
+pub begun_then : (g : Grammar) (normal : NormalForm) (options : Options) (c d : Crew) → IsBegunWith g normal options c → IsSameCrew c d → IsBegunWith g normal options d
+begun_then g normal options c d begun same = record { grammar = same.grammar ∙ begun.grammar; normal_is = same.normal_is ∙ begun.normal_is; options_are = same.options_are ∙ begun.options_are }

@@ -19,10 +19,11 @@ use Rattle.sel_closing.specs.Untabled.{CountsUntabled, AreTreesAt}
 use Rattle.sel_closing.proofs.Adding.{stopped_counts_add_up}
 use Rattle.sel_closing.proofs.Keeping.{tells_same, tells_then, kept_still}
 use Rattle.sel_crew.specs.declared.place.Made.{Made}
+use Rattle.sel_crew.specs.declared.place.Place.{Place}
 use Rattle.sel_crew.specs.declared.task.Task.{Task}
 use Rattle.sel_crew.specs.declared.turn.Turn.{Turn}
 use Rattle.sel_crew.specs.Crews.{IsSeated}
-use Rattle.sel_crew.specs.Tasks.{GrowsBy, CountsTree, IsAnswered, KeepsAnswer, IsMade, IsTaken, Took, Begins, InTurn, HasServed, numbers_of}
+use Rattle.sel_crew.specs.Tasks.{GrowsBy, CountsTree, IsAnswered, KeepsAnswer, IsMade, IsTaken, Took, Begins, InTurn, HasServed, Serves, HasWorked, numbers_of}
 use Rattle.sel_crew.proofs.Gathered.{trees_at_both, same_some}
 use Rattle.sel_crew.proofs.Lists.{contains_back, map_append}
 
@@ -192,4 +193,20 @@ took_none t n before after tree at seated grows made drawer refused = record {
   asks = asks_of_task t n tree before.part after.part at grows;
   taken = λ none. absurd (let e : true ≡ false = sym refused ∙ none in cc);
   left = λ yes. made;
+}
+
+-- what a worker's turn leaves at its place
+pub worked_by : (t : Task) (p q : Place) (part : PassPart) (turn begin : Turn) → p.part ≡ Some part → begin.part ≡ part → q.part ≡ Some turn.part → q.drawer ≡ Some turn.drawer → q.made.items ≡ turn.made.items → q.refused ≡ turn.refused
+    → q.plain_nodes ≡ counted p.plain_nodes turn.plain_nodes → Serves t begin turn → HasWorked t p q
+worked_by t p q part turn begin had is has draws made refused counts s = record {
+  old = begin.part;
+  new = turn.part;
+  drawer = turn.drawer;
+  had = had ∙ ap Some (sym is);
+  has = has;
+  draws = draws;
+  more_plain = turn.plain_nodes;
+  counts = counts;
+  served = subst (λ ms. HasServed t begin.part turn.part turn.drawer ms turn.plain_nodes q.refused) (sym made) (subst (λ b. HasServed t begin.part turn.part turn.drawer turn.made.items turn.plain_nodes b) (sym refused) s.served);
+  ended = λ none. s.ended (sym refused ∙ none);
 }

@@ -2,8 +2,8 @@
 ghost use Rattle.std.specs.Prelude.{◌≡◌, ◌<◌, [], length, IfOk};
 ghost use Rattle.std.specs.List.{list_any};
 ghost use Rattle.sel_crew.specs.declared.place.Place.{Place as AnyPlace};
-ghost use Rattle.sel_crew.specs.Crews.{lasting_at};
-ghost use Rattle.sel_crew.specs.Gathering.{AreBelow, PutsMade, made_at, AreGatherable, joined_all};
+ghost use Rattle.sel_crew.specs.Crews.{lasting, lasting_at};
+ghost use Rattle.sel_crew.specs.Gathering.{AreBelow, PutsMade, made_at, AreGatherable, IsDrawerOf, joined_with, joined_all};
 
 use crate::place::{Made, Place};
 use sel_base::{List, NoMemory};
@@ -39,7 +39,28 @@ fn put_made(made: &mut Vec<Made>, answers: &mut List<Answer>)
     }
 }
 
+/// Takes the place's drawer and answers.
+fn gather_one(
+    tickets: &Tickets,
+    place: &mut Place,
+    drawer: &mut Drawer,
+    answers: &mut List<Answer>,
+)
+    requires of { (drawer.old.of ≡ tickets.now) × IsDrawerOf tickets.now place.old.drawer }
+    requires made { AreBelow (length answers.old) place.old.made.items }
+    ensures drawer { drawer.new ≡ joined_with drawer.old place.old.drawer }
+    ensures same { lasting place.new ≡ lasting place.old }
+    ensures answers { PutsMade place.old.made.items answers.old answers.new }
+{
+    put_made(&mut place.made, answers);
+    match place.drawer.take() {
+        Some(other) => tickets.join(drawer, other),
+        None => {}
+    }
+}
+
 /// Takes the places' drawers and answers.
+#[tactic(auto, using(crate::proofs::Puts::puts_both))]
 pub fn gather(
     tickets: &Tickets,
     places: &mut [Place],
@@ -52,14 +73,8 @@ pub fn gather(
     ensures same { lasting_at places.new ≡ lasting_at places.old }
     ensures answers { PutsMade (made_at places.old) answers.old answers.new }
 {
-    match places {
-        [] => {}
-        [place, rest @ ..] => {
-            if let Some(other) = place.drawer.take() {
-                tickets.join(drawer, other);
-            }
-            put_made(&mut place.made, answers);
-            gather(tickets, rest, drawer, answers);
-        }
+    if let Some((place, rest)) = places.split_first_mut() {
+        gather_one(tickets, place, drawer, answers);
+        gather(tickets, rest, drawer, answers);
     }
 }

@@ -25,11 +25,8 @@ pub fn seat_all(tickets: &Tickets, places: &mut [Place], drawer: &mut Drawer)
     ensures same { lasting_at places.new ≡ lasting_at places.old }
     ensures drawing { AreDrawing tickets.now places.new }
 {
-    match places {
-        [] => {}
-        [place, rest @ ..] => {
-            seat(tickets, place, drawer);
-            seat_all(tickets, rest, drawer);
-        }
+    if let Some((place, rest)) = places.split_first_mut() {
+        seat(tickets, place, drawer);
+        seat_all(tickets, rest, drawer);
     }
 }
