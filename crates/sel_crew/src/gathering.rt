@@ -60,7 +60,6 @@ fn gather_one(
 }
 
 /// Takes the places' drawers and answers.
-#[tactic(auto, using(crate::proofs::Puts::puts_both))]
 pub fn gather(
     tickets: &Tickets,
     places: &mut [Place],

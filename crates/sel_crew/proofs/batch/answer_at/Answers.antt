@@ -3,6 +3,7 @@ use Rattle.sel_tickets.specs.Tickets.{Drawn}
 use Rattle.sel_crew.specs.Crews.{lasting_at, AreManned}
 use Rattle.sel_crew.specs.Gathering.{AreGatherable}
 use Rattle.sel_crew.proofs.Drawn.{none_refused}
+use Rattle.sel_crew.proofs.Ends.{count_after}
 use Rattle.sel_crew.proofs.Gathered.{answers_are, whole_batch}
 use Rattle.sel_crew.proofs.Worked.{after_batch, as_many}
 use Rattle.sel_crew.proofs.Works.{all_ready, gatherable, joined_from, once_of, same_after, after_through, whole_through}
@@ -36,14 +37,17 @@ close-requires-clause-whole g c =
     let j = (joined_from _ c.seat_all.new.places c.work_all.new.places c.seat_all.new.drawer c.gather.new.drawer c.work_all.ensures none c.seat_all.ensures.drawer c.gather.ensures.drawer).seats in
     let many = as_many _ c.seat_all.new.places c.work_all.new.places c.work_all.ensures in
     let workers = c.in_ok-tickets.ensures.tickets.1 in
-    ?
+    let before = count_after c.args.places.now c.seat_all.new.places (length c.args.places.now) (ap length c.seat_all.ensures.same) refl in
+    omega arith
 
 pub close-requires-clause-ended : goal.close-requires-clause-ended
 close-requires-clause-ended g c =
     let none = none_refused c.work_all.new.places (sym c.is_refused-refused.ensures ∙ c.if-refused.false) in
     let j = (joined_from _ c.seat_all.new.places c.work_all.new.places c.seat_all.new.drawer c.gather.new.drawer c.work_all.ensures none c.seat_all.ensures.drawer c.gather.ensures.drawer).ended in
     let many = as_many _ c.seat_all.new.places c.work_all.new.places c.work_all.ensures in
-    ?
+    let before = count_after c.args.places.now c.seat_all.new.places (length c.args.places.now) (ap length c.seat_all.ensures.same) refl in
+    let some = c.requires.some.0 in
+    omega arith
 
 pub returns-clause-after : goal.returns-clause-after
 returns-clause-after g c =

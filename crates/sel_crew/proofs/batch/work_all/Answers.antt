@@ -1,21 +1,21 @@
 use Rattle.std.proofs.Common.{rules, ◌≡◌, length, sym, subst}
 use Rattle.std.specs.Prelude.{slice_index_or}
-use denote.Param.Send.{sendable, IsSync}
+use denote.Param.Send.{sendable, param_sync, given_sync}
 use Rattle.sel_crew.specs.Tasks.{IsReady, HasWorked}
 use Rattle.sel_crew.proofs.Works.{ready_at, have_worked}
 use Rattle.sel_crew.proofs.batch.work_all.Goals as goal
 
 pub for_each_mut-requires-sync-F : goal.for_each_mut-requires-sync-F
-for_each_mut-requires-sync-F g c κs within = search rules
+for_each_mut-requires-sync-F g c κs within = search (sendable, c.type_bounds.sync-G) depth 12
 
 pub try_one : goal.for_each_mut-requires-sync-F
-try_one g c κs within = search sendable
+try_one g c κs within = search (sendable, c.type_bounds.sync-G) depth 24
 
 pub try_two : goal.for_each_mut-requires-sync-F
-try_two g c κs within = search (sendable, c.type_bounds.sync-G)
+try_two g c κs within = search (rules, sendable) depth 16
 
 pub for_each_mut-requires-clause-accepts : goal.for_each_mut-requires-clause-accepts
-for_each_mut-requires-clause-accepts g c κs within = λ i p lt e. ((c.requires.task, subst (IsReady c.args.task.now) (sym e) (ready_at c.args.task.now c.args.places.now i p.now lt c.requires.ready)), c.type_bounds.sync-G)
+for_each_mut-requires-clause-accepts g c κs within = λ i p lt e. ((c.requires.task, subst (IsReady c.args.task.now) (sym e) (ready_at c.args.task.now c.args.places.now i p.now lt c.requires.ready)), param_sync 0 _ (given_sync 1 _ c.type_bounds.sync-G))
 
 pub returns : goal.returns
 returns g c =

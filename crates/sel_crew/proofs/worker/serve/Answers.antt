@@ -30,6 +30,6 @@ returns g c =
     let i = c.numbers.invariant in
     let e = c.in_default.ensures.end in
     record {
-      served = left_after c.args.task.now c.args.turn.part c.numbers.turn _ c.draw.new.drawer i.served refl refl refl refl refl (ap (λ (d : Drawn). d.of) e) (ap (λ (d : Drawn). d.seats) e) (ap (λ (d : Drawn). d.numbers) e);
+      served = left_after c.args.task.now c.args.turn.part c.numbers.turn (record c.numbers.turn { drawer = c.draw.new.drawer }) c.draw.new.drawer i.served refl refl refl refl refl (ap (λ (d : Drawn). d.of) e) (ap (λ (d : Drawn). d.seats) e) (ap (λ (d : Drawn). d.numbers) e);
       ended = λ none. ap (λ (d : Drawn). d.ended) e ∙ ap (λ n. n + 1) i.early;
     }
