@@ -6,11 +6,13 @@ ghost use Rattle.sel_count.specs.Things.{AreValid};
 ghost use Rattle.sel_crew.specs.Answers.{AreAnswersOf};
 ghost use Rattle.sel_crew.specs.Batches.{IsAfterBatch, IsWholeBatch};
 ghost use Rattle.sel_crew.specs.Crews.{lasting_at, AreManned};
-ghost use Rattle.sel_crew.specs.Tasks.{IsTask, IsReady, HasWorked, AreReady, HaveWorked};
+ghost use Rattle.sel_crew.specs.Tasks.{IsTask, AreReady, HaveWorked};
 
 use crate::gathering::{gather, is_refused, room_for};
+use crate::passing::{Passing, Through};
 use crate::place::Place;
 use crate::seats::seat_all;
+use crate::serving::{Serve, serve_all};
 use crate::task::Task;
 use crate::worker::work;
 use sel_base::{Gate, List, NoMemory};
@@ -21,7 +23,26 @@ use sel_rows::Rows;
 use sel_tickets::Tickets;
 use sel_work::{Answer, Goal};
 use std::alloc::Global;
-use std::thread::{Threads, for_each_mut};
+use std::thread::Threads;
+
+/// A batch's task, with the gate that is passed round each tree.
+#[derive(Drop)]
+struct Work<'b, G> {
+    task: &'b Task<'b>,
+    gate: &'b G,
+}
+
+impl<'b, G: Passing> Serve for Work<'b, G> {
+    ghost use Rattle.sel_crew.specs.Tasks.{IsTask, IsReady, HasWorked};
+
+    ghost ready = { λ s p. IsTask s.task.now × IsReady s.task.now p };
+
+    ghost done = { λ s p q. HasWorked s.task.now p q };
+
+    fn serve(&self, place: &mut Place) {
+        work(self.task, self.gate, place)
+    }
+}
 
 /// Lets each place's worker answer trees until no number is left.
 pub fn work_all<Rt: Threads + Sync, G: Gate + Sync>(
@@ -35,16 +56,12 @@ pub fn work_all<Rt: Threads + Sync, G: Gate + Sync>(
     requires ready { AreReady task.now places.old }
     ensures { HaveWorked task.now places.old places.new }
 {
-    let threads = places.len();
-    for_each_mut(
-        rt,
-        places,
-        threads,
-        &|_, place: &mut Place|
-            requires { IsTask task.now × IsReady task.now place.now }
-            ensures { HasWorked task.entry.now place.entry.now place.exit.now }
-        { work(task, gate, place) },
-    );
+    let through = Through { gate };
+    let server = Work {
+        task,
+        gate: &through,
+    };
+    serve_all(rt, &server, places)
 }
 
 /// The answers of the trees, in their order, by the workers of the places. Room for all of them is taken before a worker

@@ -3,11 +3,12 @@ ghost use Rattle.std.specs.Prelude.{◌≡◌, ◌<◌, length, IfSome, IfNone};
 ghost use Rattle.sel_crew.specs.Crews.{IsSeated};
 ghost use Rattle.sel_crew.specs.Tasks.{IsTask, IsReady, HasWorked, Begins, Serves, Took, KeepsAnswer};
 
+use crate::passing::Passing;
 use crate::place::{Made, Place};
 use crate::task::Task;
 use crate::tree::answer_by_part;
 use crate::turn::Turn;
-use sel_base::{Gate, NoMemory, Steps};
+use sel_base::{NoMemory, Steps};
 use sel_expand::Expander;
 use sel_work::Answered;
 use std::marker::Brand;
@@ -35,7 +36,7 @@ fn keep(made: &mut Vec<Made>, number: u32, answered: Result<Answered, NoMemory>)
 }
 
 /// Answers the tree with the number.
-fn answer_number<L: Ledger, G: Gate>(
+fn answer_number<L: Ledger, G: Passing>(
     task: &Task<'_>,
     gate: &G,
     worker: u32,
@@ -81,7 +82,7 @@ fn answer_number<L: Ledger, G: Gate>(
 }
 
 /// Answers the trees of the numbers that it draws, up to the first that is no tree's, or to want of memory.
-fn serve<L: Ledger, G: Gate>(
+fn serve<L: Ledger, G: Passing>(
     task: &Task<'_>,
     gate: &G,
     worker: u32,
@@ -104,7 +105,7 @@ fn serve<L: Ledger, G: Gate>(
 }
 
 /// Answers the trees of the numbers that the place's worker draws, with a counter of its own.
-fn work_counted<L: Ledger, G: Gate>(
+fn work_counted<L: Ledger, G: Passing>(
     task: &Task<'_>,
     gate: &G,
     place: &mut Place,
@@ -143,7 +144,7 @@ fn work_counted<L: Ledger, G: Gate>(
 }
 
 /// Answers the trees of the numbers that the place's worker draws.
-pub fn work<G: Gate>(task: &Task<'_>, gate: &G, place: &mut Place)
+pub fn work<G: Passing>(task: &Task<'_>, gate: &G, place: &mut Place)
     requires task { IsTask task.now }
     requires ready { IsReady task.now place.old }
     ensures { HasWorked task.now place.old place.new }
