@@ -1,12 +1,13 @@
 //! All workers of a batch.
-ghost use Rattle.std.specs.Prelude.{◌≡◌, ◌+◌, ◌<◌, ◌≤◌, ◌^◌, length, IfOk, OnOk};
+ghost use Rattle.std.specs.Prelude.{◌≡◌, ℕ, ◌+◌, ◌<◌, ◌≤◌, ◌^◌, length, slice_index_or, IfOk, OnOk};
 ghost use Rattle.sel_items.specs.Laws.{IsAcceptedForm};
 ghost use Rattle.sel_rows.specs.Tables.{setting_of};
 ghost use Rattle.sel_count.specs.Things.{AreValid};
+ghost use Rattle.sel_crew.specs.declared.place.Place.{Place as AnyPlace};
 ghost use Rattle.sel_crew.specs.Answers.{AreAnswersOf};
 ghost use Rattle.sel_crew.specs.Batches.{IsAfterBatch, IsWholeBatch};
 ghost use Rattle.sel_crew.specs.Crews.{lasting_at, AreManned};
-ghost use Rattle.sel_crew.specs.Tasks.{IsTask, AreReady, HaveWorked};
+ghost use Rattle.sel_crew.specs.Tasks.{IsTask, IsReady, HasWorked, AreReady, HaveWorked};
 
 use crate::gathering::{gather, is_refused, room_for};
 use crate::passing::{Passing, Through};
@@ -27,12 +28,12 @@ use std::thread::Threads;
 
 /// A batch's task, with the gate that is passed round each tree.
 #[derive(Drop)]
-struct Work<'b, G> {
-    task: &'b Task<'b>,
+struct Work<'b, T, G> {
+    task: &'b T,
     gate: &'b G,
 }
 
-impl<'b, G: Passing> Serve for Work<'b, G> {
+impl<'b, G: Passing> Serve for Work<'b, Task<'b>, G> {
     ghost use Rattle.sel_crew.specs.Tasks.{IsTask, IsReady, HasWorked};
 
     ghost ready = { λ s p. IsTask s.task.now × IsReady s.task.now p };
@@ -42,6 +43,20 @@ impl<'b, G: Passing> Serve for Work<'b, G> {
     fn serve(&self, place: &mut Place) {
         work(self.task, self.gate, place)
     }
+}
+
+/// Serves the places by the work.
+fn serve_by<Rt: Threads + Sync, G: Gate + Sync>(
+    rt: &Rt,
+    server: &Work<'_, Task<'_>, Through<'_, G>>,
+    places: &mut [Place],
+)
+    requires some { 0 < length places.old }
+    requires ready { (i : ℕ) (d : AnyPlace) → i < length places.old → IsTask server.now.task.now × IsReady server.now.task.now (slice_index_or places.old i d) }
+    ensures many { length places.new ≡ length places.old }
+    ensures each { (i : ℕ) (d : AnyPlace) → i < length places.old → HasWorked server.now.task.now (slice_index_or places.old i d) (slice_index_or places.new i d) }
+{
+    serve_all(rt, server, places)
 }
 
 /// Lets each place's worker answer trees until no number is left.
@@ -61,7 +76,7 @@ pub fn work_all<Rt: Threads + Sync, G: Gate + Sync>(
         task,
         gate: &through,
     };
-    serve_all(rt, &server, places)
+    serve_by(rt, &server, places)
 }
 
 /// The answers of the trees, in their order, by the workers of the places. Room for all of them is taken before a worker
