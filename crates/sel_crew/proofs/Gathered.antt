@@ -61,12 +61,12 @@ answers_are t ps qs old new w long puts once = all_answers t.grammar.now t.goal 
     each : (k : ℕ) (tree : Tree) (a : Answer) → slice_get t.trees.now k ≡ Some tree → slice_get new k ≡ Some a → IsAnswerOf t.grammar.now t.goal tree a
     each k tree a at is = ⊎_elim
         (λ (put : IsPut (made_at qs) k a).
-            let made = all_made t ps qs w put.0 (in_one_of put.0 (made_at qs) put.1) in
-            let same : Some made.0 ≡ Some tree = sym made.1 ∙ (ap (slice_get t.trees.now) put.2 ∙ at) in
-            subst (λ x. IsAnswerOf t.grammar.now t.goal x a) (same_some made.0 tree same) (subst (λ x. IsAnswerOf t.grammar.now t.goal made.0 x) put.3 made.2))
+        let made = all_made t ps qs w put.0 (in_one_of put.0 (made_at qs) put.1) in
+        let same : Some made.0 ≡ Some tree = sym made.1 ∙ (ap (slice_get t.trees.now) put.2 ∙ at) in
+        subst (λ x. IsAnswerOf t.grammar.now t.goal x a) (same_some made.0 tree same) (subst (λ x. IsAnswerOf t.grammar.now t.goal made.0 x) put.3 made.2))
         (λ (kept : (slice_get old k ≡ Some a) × LacksNumber (made_at qs) k).
-            let m = out_map (λ (x : Made). x.number) (made_at qs) k (once_found (length t.trees.now) (numbers_of (made_at qs)) once k (slice_get_within t.trees.now k tree at)) in
-            absurd (kept.1 m.0 (one_of_in m.0 (made_at qs) m.1) m.2))
+        let m = out_map (λ (x : Made). x.number) (made_at qs) k (once_found (length t.trees.now) (numbers_of (made_at qs)) once k (slice_get_within t.trees.now k tree at)) in
+        absurd (kept.1 m.0 (one_of_in m.0 (made_at qs) m.1) m.2))
         (puts.each k a is)
 
 abbrev KeptBy : Task → Tree → List PassPart → Type 0
@@ -79,13 +79,13 @@ kept_at t [] (q ∷ qs) w none k tree at h = absurd w
 kept_at t (p ∷ ps) (q ∷ qs) w none k tree at h =
     let here = w.0 in
     ⊎_elim
-        (λ (a : IsOneOf k (numbers_of q.made.items)).
-            let drawn = subst (IsOneOf k) ((here.served).numbers none.0) a in
-            (here.new, is_first q.part here.new (parts_in (lasting_at qs)) here.has, (here.served).kept none.0 k tree (one_of_in k (here.drawer).numbers drawn) at))
-        (λ (b : IsOneOf k (numbers_of (made_at qs))).
-            let r = kept_at t ps qs w.1 none.1 k tree at b in
-            (r.0, is_later q.part here.new (parts_in (lasting_at qs)) r.0 here.has r.1, r.2))
-        (one_of_front_or_back k (numbers_of q.made.items) (numbers_of (made_at qs)) (subst (IsOneOf k) (map_append (λ (m : Made). m.number) q.made.items (made_at qs)) h))
+    (λ (a : IsOneOf k (numbers_of q.made.items)).
+    let drawn = subst (IsOneOf k) ((here.served).numbers none.0) a in
+    (here.new, is_first q.part here.new (parts_in (lasting_at qs)) here.has, (here.served).kept none.0 k tree (one_of_in k (here.drawer).numbers drawn) at))
+    (λ (b : IsOneOf k (numbers_of (made_at qs))).
+    let r = kept_at t ps qs w.1 none.1 k tree at b in
+    (r.0, is_later q.part here.new (parts_in (lasting_at qs)) r.0 here.has r.1, r.2))
+    (one_of_front_or_back k (numbers_of q.made.items) (numbers_of (made_at qs)) (subst (IsOneOf k) (map_append (λ (m : Made). m.number) q.made.items (made_at qs)) h))
 
 pub trees_at_both : (trees : List Tree) (ms ns : List ℕ) (xs ys : List Tree) → AreTreesAt trees ms xs → AreTreesAt trees ns ys → AreTreesAt trees (ms ++ ns) (xs ++ ys)
 trees_at_both trees [] ns [] ys a b = b
@@ -136,8 +136,7 @@ whole_batch t ps qs w none once = record {
       (r.0, one_of_in r.0 (parts_in (lasting_at qs)) r.1, r.2));
   counted = λ unmarked. (
       let all = counted_at t ps qs w none (λ x m. not_true (part_used_up x) (λ u. unmarked (x, one_of_in x (parts_in (lasting_at qs)) m, u))) in
-      let numbers = numbers_of (made_at qs) in
-      (
+      let numbers = numbers_of (made_at qs) in (
         all.count,
         counts_in_any_order t.grammar.now t.trees.now all.drawn numbers all.count (once_differ (length t.trees.now) numbers once) (once_lists (length t.trees.now) numbers once) all.at all.counts,
         all.rises,

@@ -20,6 +20,7 @@ set_here [] k a b e = absurd (no_answer b e)
     is_none_of : Option Answer → Type 0
     is_none_of None = Unit {0}
     is_none_of (Some x) = ⊥
+
     no_answer : (b : Answer) → None ≡ Some b → ⊥
     no_answer b e = subst is_none_of e tt
 set_here (x ∷ xs) zero a b e = e

@@ -43,9 +43,9 @@ begun t u b = record {
   numbers = λ none. ap numbers_of b.made ∙ sym (ap (λ (d : Drawn). d.numbers) b.drawer);
   kept = λ none n tree i at. absurd (in_nil n (subst (In n) (ap (λ (d : Drawn). d.numbers) b.drawer) i));
   tally = λ none left. (
-      [],
-      subst (λ ns. AreTreesAt t.trees.now ns []) (sym (ap (λ (d : Drawn). d.numbers) b.drawer)) tt,
-      subst (CountsUntabled t.grammar.now []) (sym b.plain) (stopped_counts_add_up t.grammar.now).0,
+    [],
+    subst (λ ns. AreTreesAt t.trees.now ns []) (sym (ap (λ (d : Drawn). d.numbers) b.drawer)) tt,
+    subst (CountsUntabled t.grammar.now []) (sym b.plain) (stopped_counts_add_up t.grammar.now).0,
   );
 }
 
@@ -90,18 +90,17 @@ kept_after : (t : Task) (n : ℕ) (before now after : Turn) (old : PassPart) →
 kept_after t n before now after old h took none k tree i at =
     let taken = took.taken none in
     ⊎_elim
-        (λ (a : In k before.drawer.numbers). kept_still t.grammar.now tree.nodes (told_of_part before.part) (told_of_part after.part) (grown_after t n before now after old h took) ((h.served).kept h.fresh k tree a at))
-        (λ (b : In k (n ∷ [])).
-            let same : Some taken.tree ≡ Some tree = sym taken.is_tree ∙ (ap (slice_get t.trees.now) (in_one k n b) ∙ at) in
-            subst (λ (x : Tree). AreTabledKept t.grammar.now x.nodes (told_of_part after.part)) (same_some taken.tree tree same) taken.kept)
-        (in_split k before.drawer.numbers (n ∷ []) (subst (In k) (drawn_after t n before now after old h took) i))
+    (λ (a : In k before.drawer.numbers). kept_still t.grammar.now tree.nodes (told_of_part before.part) (told_of_part after.part) (grown_after t n before now after old h took) ((h.served).kept h.fresh k tree a at))
+    (λ (b : In k (n ∷ [])).
+    let same : Some taken.tree ≡ Some tree = sym taken.is_tree ∙ (ap (slice_get t.trees.now) (in_one k n b) ∙ at) in
+    subst (λ (x : Tree). AreTabledKept t.grammar.now x.nodes (told_of_part after.part)) (same_some taken.tree tree same) taken.kept)
+    (in_split k before.drawer.numbers (n ∷ []) (subst (In k) (drawn_after t n before now after old h took) i))
 
 tally_after : (t : Task) (n : ℕ) (before now after : Turn) (old : PassPart) → HasDrawn t old n before now → Took t n now after → after.refused ≡ false → part_used_up after.part ≡ false
     → (drawn : List Tree) × AreTreesAt t.trees.now after.drawer.numbers drawn × CountsUntabled t.grammar.now drawn after.plain_nodes
 tally_after t n before now after old h took none left =
     let taken = took.taken none in
-    let was = (h.served).tally h.fresh (was_false (part_used_up before.part) (part_used_up after.part) (grown_after t n before now after old h took).used_up left) in
-    (
+    let was = (h.served).tally h.fresh (was_false (part_used_up before.part) (part_used_up after.part) (grown_after t n before now after old h took).used_up left) in (
       was.0 ++ taken.tree ∷ [],
       subst (λ ns. AreTreesAt t.trees.now ns (was.0 ++ taken.tree ∷ [])) (sym (drawn_after t n before now after old h took))
           (trees_at_both t.trees.now before.drawer.numbers (n ∷ []) was.0 (taken.tree ∷ []) was.1 (taken.is_tree, tt)),

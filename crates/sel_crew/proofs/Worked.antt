@@ -34,9 +34,9 @@ more_at t [] (q ∷ qs) w x h = absurd w
 more_at t (p ∷ ps) (q ∷ qs) w x h =
     let here = w.0 in
     ⊎_elim
-        (λ (e : here.old ≡ x). subst (λ y. ToldMoreBy y (parts_in (lasting_at (q ∷ qs)))) e (here.new, is_first q.part here.new (parts_in (lasting_at qs)) here.has, (here.served).more))
-        (λ (m : IsOneOf x (parts_in (lasting_at ps))). let r = more_at t ps qs w.1 x m in (r.0, is_later q.part here.new (parts_in (lasting_at qs)) r.0 here.has r.1, r.2))
-        (first_or_later p.part here.old (parts_in (lasting_at ps)) x here.had h)
+    (λ (e : here.old ≡ x). subst (λ y. ToldMoreBy y (parts_in (lasting_at (q ∷ qs)))) e (here.new, is_first q.part here.new (parts_in (lasting_at qs)) here.has, (here.served).more))
+    (λ (m : IsOneOf x (parts_in (lasting_at ps))). let r = more_at t ps qs w.1 x m in (r.0, is_later q.part here.new (parts_in (lasting_at qs)) r.0 here.has r.1, r.2))
+    (first_or_later p.part here.old (parts_in (lasting_at ps)) x here.had h)
 
 asks_at : (t : Task) (given : List Tree) (ps qs : List Place) → HaveWorked t ps qs
     → ((x : PassPart) → IsOneOf x (parts_in (lasting_at ps)) → AsksOnly t.grammar.now given (told_of_part x))
@@ -47,10 +47,10 @@ asks_at t given [] (q ∷ qs) w a y h = absurd w
 asks_at t given (p ∷ ps) (q ∷ qs) w a y h =
     let here = w.0 in
     ⊎_elim
-        (λ (e : here.new ≡ y). subst (λ z. AsksOnly t.grammar.now (given ++ t.trees.now) (told_of_part z)) e (
-            (here.served).asks given (more_trees t.grammar.now given (given ++ t.trees.now) (told_of_part here.old) (λ tree k. contains_front tree given t.trees.now k) (a here.old (is_first p.part here.old (parts_in (lasting_at ps)) here.had)))))
-        (λ (m : IsOneOf y (parts_in (lasting_at qs))). asks_at t given ps qs w.1 (λ x k. a x (is_later p.part here.old (parts_in (lasting_at ps)) x here.had k)) y m)
-        (first_or_later q.part here.new (parts_in (lasting_at qs)) y here.has h)
+    (λ (e : here.new ≡ y). subst (λ z. AsksOnly t.grammar.now (given ++ t.trees.now) (told_of_part z)) e (
+    (here.served).asks given (more_trees t.grammar.now given (given ++ t.trees.now) (told_of_part here.old) (λ tree k. contains_front tree given t.trees.now k) (a here.old (is_first p.part here.old (parts_in (lasting_at ps)) here.had)))))
+    (λ (m : IsOneOf y (parts_in (lasting_at qs))). asks_at t given ps qs w.1 (λ x k. a x (is_later p.part here.old (parts_in (lasting_at ps)) x here.had k)) y m)
+    (first_or_later q.part here.new (parts_in (lasting_at qs)) y here.has h)
 
 manned_at : (t : Task) (ps qs : List Place) → HaveWorked t ps qs → AreManned t.rows.now (lasting_at qs)
 manned_at t [] [] w = tt

@@ -1,6 +1,7 @@
 -- What the workers of a batch share, and what each does with it.
 use Rattle.std.specs.Prelude.{◌≡◌, ◌+◌, ◌<◌, ◌^◌, ℕ, Bool, true, false, Option, Some, None, Result, Ok, List, [], ◌∷◌, ◌++◌, length, map, slice_get}
 use Rattle.std.specs.List.{Contains}
+use denote.Ref.{Bor}
 use Rattle.sel_base.specs.declared.fault.NoMemory.{NoMemory}
 use Rattle.sel_grammar.specs.declared.grammar.Grammar.{Grammar}
 use Rattle.sel_forest.specs.declared.forest.Tree.{Tree}
@@ -19,10 +20,15 @@ use Rattle.sel_closing.specs.Asking.{told_of_part, AsksOnly, TellsMore}
 use Rattle.sel_closing.specs.Untabled.{CountsUntabled, AreTreesAt}
 use Rattle.sel_crew.specs.declared.place.Made.{Made}
 use Rattle.sel_crew.specs.declared.place.Place.{Place}
+use Rattle.sel_crew.specs.declared.task.Bare.{Bare}
 use Rattle.sel_crew.specs.declared.task.Task.{Task}
 use Rattle.sel_crew.specs.declared.turn.Turn.{Turn}
 use Rattle.sel_crew.specs.Answers.{IsAnswerOf}
 use Rattle.sel_crew.specs.Crews.{IsSeated, IsMannedBy}
+
+-- the task of a grammar and what else threads share
+abbrev pub task_by : Bor Grammar → Bare → Task
+task_by g b = record { alloc = b.alloc; grammar = g; normal = b.normal; rows = b.rows; trees = b.trees; tickets = b.tickets; goal = b.goal; first = b.first }
 
 -- The grammar is accepted with its normal form, for which the table was made. The trees are valid, and there are numbers for each.
 pub record IsTask (t : Task) : Type 0 where

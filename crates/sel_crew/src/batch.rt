@@ -1,20 +1,19 @@
 //! All workers of a batch.
-ghost use Rattle.std.specs.Prelude.{◌≡◌, ℕ, ◌+◌, ◌<◌, ◌≤◌, ◌^◌, length, slice_index_or, IfOk, OnOk};
+ghost use Rattle.std.specs.Prelude.{◌≡◌, ◌+◌, ◌<◌, ◌≤◌, ◌^◌, length, IfOk, OnOk};
 ghost use Rattle.sel_items.specs.Laws.{IsAcceptedForm};
 ghost use Rattle.sel_rows.specs.Tables.{setting_of};
 ghost use Rattle.sel_count.specs.Things.{AreValid};
-ghost use Rattle.sel_crew.specs.declared.place.Place.{Place as AnyPlace};
 ghost use Rattle.sel_crew.specs.Answers.{AreAnswersOf};
 ghost use Rattle.sel_crew.specs.Batches.{IsAfterBatch, IsWholeBatch};
 ghost use Rattle.sel_crew.specs.Crews.{lasting_at, AreManned};
-ghost use Rattle.sel_crew.specs.Tasks.{IsTask, IsReady, HasWorked, AreReady, HaveWorked};
+ghost use Rattle.sel_crew.specs.Tasks.{IsTask, AreReady, HaveWorked, task_by};
 
 use crate::gathering::{gather, is_refused, room_for};
 use crate::passing::{Passing, Through};
 use crate::place::Place;
 use crate::seats::seat_all;
 use crate::serving::{Serve, serve_all};
-use crate::task::Task;
+use crate::task::{Bare, Task};
 use crate::worker::work;
 use sel_base::{Gate, List, NoMemory};
 use sel_forest::Tree;
@@ -26,57 +25,65 @@ use sel_work::{Answer, Goal};
 use std::alloc::Global;
 use std::thread::Threads;
 
-/// A batch's task, with the gate that is passed round each tree.
+/// A batch's task, and the gate that is passed round each tree. What threads share stands for parameters.
 #[derive(Drop)]
-struct Work<'b, T, G> {
-    task: &'b T,
+struct Work<'b, M, S, G> {
+    grammar: &'b M,
+    bare: &'b S,
     gate: &'b G,
 }
 
-impl<'b, G: Passing> Serve for Work<'b, Task<'b>, G> {
-    ghost use Rattle.sel_crew.specs.Tasks.{IsTask, IsReady, HasWorked};
+impl<'b, G: Passing> Serve for Work<'b, Grammar, Bare<'b>, G> {
+    ghost use Rattle.sel_crew.specs.Tasks.{IsTask, IsReady, HasWorked, task_by};
 
-    ghost ready = { λ s p. IsTask s.task.now × IsReady s.task.now p };
+    ghost ready = { λ s p. IsTask (task_by s.grammar s.bare.now) × IsReady (task_by s.grammar s.bare.now) p };
 
-    ghost done = { λ s p q. HasWorked s.task.now p q };
+    ghost done = { λ s p q. HasWorked (task_by s.grammar s.bare.now) p q };
 
     fn serve(&self, place: &mut Place) {
-        work(self.task, self.gate, place)
+        let Bare {
+            alloc,
+            normal,
+            rows,
+            trees,
+            tickets,
+            goal,
+            first,
+        } = *self.bare;
+        let task = Task {
+            alloc,
+            grammar: self.grammar,
+            normal,
+            rows,
+            trees,
+            tickets,
+            goal,
+            first,
+        };
+        work(&task, self.gate, place)
     }
 }
 
-/// Serves the places by the work.
-fn serve_by<Rt: Threads + Sync, G: Gate + Sync>(
-    rt: &Rt,
-    server: &Work<'_, Task<'_>, Through<'_, G>>,
-    places: &mut [Place],
-)
-    requires some { 0 < length places.old }
-    requires ready { (i : ℕ) (d : AnyPlace) → i < length places.old → IsTask server.now.task.now × IsReady server.now.task.now (slice_index_or places.old i d) }
-    ensures many { length places.new ≡ length places.old }
-    ensures each { (i : ℕ) (d : AnyPlace) → i < length places.old → HasWorked server.now.task.now (slice_index_or places.old i d) (slice_index_or places.new i d) }
-{
-    serve_all(rt, server, places)
-}
-
 /// Lets each place's worker answer trees until no number is left.
-pub fn work_all<Rt: Threads + Sync, G: Gate + Sync>(
+fn work_all<Rt: Threads + Sync, G: Gate + Sync>(
     rt: &Rt,
-    task: &Task<'_>,
+    grammar: &Grammar,
+    bare: &Bare<'_>,
     gate: &G,
     places: &mut [Place],
 )
-    requires task { IsTask task.now }
+    requires task { IsTask (task_by grammar bare.now) }
     requires some { 0 < length places.old }
-    requires ready { AreReady task.now places.old }
-    ensures { HaveWorked task.now places.old places.new }
+    requires ready { AreReady (task_by grammar bare.now) places.old }
+    ensures { HaveWorked (task_by grammar.entry bare.now) places.old places.new }
 {
     let through = Through { gate };
     let server = Work {
-        task,
+        grammar,
+        bare,
         gate: &through,
     };
-    serve_by(rt, &server, places)
+    serve_all(rt, &server, places)
 }
 
 /// The answers of the trees, in their order, by the workers of the places. Room for all of them is taken before a worker
@@ -107,9 +114,8 @@ pub fn answer_at<Rt: Threads + Sync, G: Gate + Sync>(
     let seats = places.len() as u32 + 1;
     let (tickets, mut drawer) = Tickets::new(alloc, trees.len() as u32, seats)?;
     seat_all(&tickets, places, &mut drawer);
-    let task = Task {
+    let bare = Bare {
         alloc,
-        grammar,
         normal,
         rows,
         trees,
@@ -117,7 +123,7 @@ pub fn answer_at<Rt: Threads + Sync, G: Gate + Sync>(
         goal,
         first,
     };
-    work_all(rt, &task, gate, places);
+    work_all(rt, grammar, &bare, gate, places);
     let refused = is_refused(places);
     gather(&tickets, places, &mut drawer, &mut answers);
     if refused {

@@ -40,12 +40,7 @@ fn put_made(made: &mut Vec<Made>, answers: &mut List<Answer>)
 }
 
 /// Takes the place's drawer and answers.
-fn gather_one(
-    tickets: &Tickets,
-    place: &mut Place,
-    drawer: &mut Drawer,
-    answers: &mut List<Answer>,
-)
+fn gather_one(tickets: &Tickets, place: &mut Place, drawer: &mut Drawer, answers: &mut List<Answer>)
     requires of { (drawer.old.of ≡ tickets.now) × IsDrawerOf tickets.now place.old.drawer }
     requires made { AreBelow (length answers.old) place.old.made.items }
     ensures drawer { drawer.new ≡ joined_with drawer.old place.old.drawer }

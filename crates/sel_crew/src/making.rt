@@ -11,11 +11,7 @@ use sel_rows::{PassPart, Rows};
 use std::alloc::Global;
 
 /// A place for each of the parts.
-pub fn place_all(
-    alloc: Global,
-    rows: &Rows,
-    parts: List<PassPart>,
-) -> Result<Vec<Place>, NoMemory>
+pub fn place_all(alloc: Global, rows: &Rows, parts: List<PassPart>) -> Result<Vec<Place>, NoMemory>
     requires of { ArePartsOf rows.now parts }
     requires fresh { AreFresh parts }
     requires few { length parts < 2 ^ 32 }

@@ -20,3 +20,15 @@ pub struct Task<'b> {
     pub goal: Goal,
     pub first: u32,
 }
+
+/// A task but for its grammar.
+#[derive(Clone, Copy)]
+pub struct Bare<'b> {
+    pub alloc: Global,
+    pub normal: &'b Normal,
+    pub rows: &'b Rows,
+    pub trees: &'b [Tree],
+    pub tickets: &'b Tickets,
+    pub goal: Goal,
+    pub first: u32,
+}

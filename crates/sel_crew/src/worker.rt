@@ -58,8 +58,13 @@ fn answer_number<L: Ledger, G: Passing>(
         refused: _,
     } = turn;
     gate.enter(worker, task.first + number);
-    let (part, answered) =
-        answer_by_part(task, expander, part, &task.trees[number as usize], steps);
+    let (part, answered) = answer_by_part(
+        task,
+        expander,
+        part,
+        &task.trees[number as usize],
+        steps,
+    );
     match keep(&mut made, number, answered) {
         Some(more) => {
             gate.leave(worker, task.first + number);
@@ -105,12 +110,7 @@ fn serve<L: Ledger, G: Passing>(
 }
 
 /// Answers the trees of the numbers that the place's worker draws, with a counter of its own.
-fn work_counted<L: Ledger, G: Passing>(
-    task: &Task<'_>,
-    gate: &G,
-    place: &mut Place,
-    blank: Blank,
-)
+fn work_counted<L: Ledger, G: Passing>(task: &Task<'_>, gate: &G, place: &mut Place, blank: Blank)
     requires task { IsTask task.now }
     requires ready { IsReady task.now place.old }
     requires name { blank.name ≡ L.name }
@@ -135,7 +135,14 @@ fn work_counted<L: Ledger, G: Passing>(
         made,
         plain_nodes,
         refused,
-    } = serve(task, gate, place.worker, &mut place.expander, turn, &mut steps);
+    } = serve(
+        task,
+        gate,
+        place.worker,
+        &mut place.expander,
+        turn,
+        &mut steps,
+    );
     place.part = Some(part);
     place.drawer = Some(drawer);
     place.made = made;

@@ -17,7 +17,7 @@ returns-clause-counted g c =
     let d = c.answer.new.self in
     let a = c.in_ok-answers.ensures in
     counted_for c.args.grammar.now c.args.normal.now c.args.options d (begun_then _ _ _ _ d c.in_ok-crew.ensures.begun a.begun) trees c.in_ok-report.report
-        (forests_are_valid c.args.grammar.now c.args.forest.now c.requires.valid) (subst (λ ts. HasAskedOnly ts d) c.as_slice.ensures (a.asked [] c.in_ok-crew.ensures.asked)) c.in_ok-report.ensures.counted
+    (forests_are_valid c.args.grammar.now c.args.forest.now c.requires.valid) (subst (λ ts. HasAskedOnly ts d) c.as_slice.ensures (a.asked [] c.in_ok-crew.ensures.asked)) c.in_ok-report.ensures.counted
 
 pub returns-clause-whole : goal.returns-clause-whole
 returns-clause-whole g c =
@@ -25,8 +25,8 @@ returns-clause-whole g c =
     let d = c.answer.new.self in
     let a = c.in_ok-answers.ensures in
     whole_for c.args.grammar.now c.args.normal.now c.args.options d (begun_then _ _ _ _ d c.in_ok-crew.ensures.begun a.begun) trees c.in_ok-report.report
-        (forests_are_valid c.args.grammar.now c.args.forest.now c.requires.valid) (subst (λ ts. HasAskedOnly ts d) c.as_slice.ensures (a.asked [] c.in_ok-crew.ensures.asked))
-        (subst (λ ts. KeepsAll ts d) c.as_slice.ensures (a.answered [] c.in_ok-crew.ensures.kept)) c.in_ok-report.ensures.whole
+    (forests_are_valid c.args.grammar.now c.args.forest.now c.requires.valid) (subst (λ ts. HasAskedOnly ts d) c.as_slice.ensures (a.asked [] c.in_ok-crew.ensures.asked))
+    (subst (λ ts. KeepsAll ts d) c.as_slice.ensures (a.answered [] c.in_ok-crew.ensures.kept)) c.in_ok-report.ensures.whole
 
 pub returns-clause-plain : goal.returns-clause-plain
 returns-clause-plain g c =
@@ -34,4 +34,4 @@ returns-clause-plain g c =
     let d = c.answer.new.self in
     let a = c.in_ok-answers.ensures in
     plain_for c.args.grammar.now c.args.normal.now c.args.options d (begun_then _ _ _ _ d c.in_ok-crew.ensures.begun a.begun) trees c.in_ok-report.report
-        (subst (λ ts. CountsPlainOf ts d) c.as_slice.ensures (a.counted [] c.in_ok-crew.ensures.counted)) c.in_ok-report.ensures.plain
+    (subst (λ ts. CountsPlainOf ts d) c.as_slice.ensures (a.counted [] c.in_ok-crew.ensures.counted)) c.in_ok-report.ensures.plain
