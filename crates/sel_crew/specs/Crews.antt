@@ -1,5 +1,5 @@
 -- What a crew is, and what its parts together asked, keep and count.
-use Rattle.std.specs.Prelude.{◌≡◌, ◌-◌, ◌^◌, ◌≤◌, ℕ, true, Option, Some, None, List, [], ◌∷◌, ◌++◌, length, min}
+use Rattle.std.specs.Prelude.{◌≡◌, ◌-◌, ◌^◌, ◌≤◌, ℕ, true, Option, Some, None, List, [], ◌∷◌, ◌++◌, length, map, min}
 use Rattle.sel_grammar.specs.declared.grammar.Grammar.{Grammar}
 use Rattle.sel_forest.specs.declared.forest.Tree.{Tree}
 use Rattle.sel_normal.specs.NormalForms.{NormalForm}
@@ -7,8 +7,8 @@ use Rattle.sel_items.specs.Laws.{IsAcceptedForm}
 use Rattle.sel_law.specs.Words.{In, weigh}
 use Rattle.sel_rows.specs.declared.part.PassPart.{PassPart}
 use Rattle.sel_rows.specs.declared.rows.Rows.{Rows}
-use Rattle.sel_rows.specs.Parts.{IsSettingOf, AreFresh, part_used_up, part_row_full, seats_of}
-use Rattle.sel_rows.specs.Tables.{setting_of, view_of, IsPartOf, ArePartsOf}
+use Rattle.sel_rows.specs.Parts.{IsSettingOf, IsFresh, AreFresh, part_used_up, part_row_full}
+use Rattle.sel_rows.specs.Tables.{setting_of, view_of, IsPartOf}
 use Rattle.sel_closing.specs.Asking.{PartsAskOnly, PartsKeep}
 use Rattle.sel_closing.specs.SnapshotTables.{Room}
 use Rattle.sel_closing.specs.Untabled.{CountsUntabled}
@@ -30,39 +30,67 @@ options_of c = c.options
 abbrev pub room_of : Crew → Room
 room_of c = room_by (options_of c)
 
+-- what stays at a place from one batch to the next: its part, and the nodes with plain labels that it has counted
+abbrev pub Lasting : Type 0
+Lasting = Option PassPart × ℕ
+
+abbrev pub lasting : Place → Lasting
+lasting p = (p.part, p.plain_nodes)
+
+abbrev pub lasting_at : List Place → List Lasting
+lasting_at ps = map lasting ps
+
+abbrev pub lasting_of : Crew → List Lasting
+lasting_of c = lasting_at c.places.items
+
 abbrev pub with_part : Option PassPart → List PassPart → List PassPart
 with_part (Some part) parts = part ∷ parts
 with_part None parts = parts
 
 -- the parts that stand at the places
-abbrev pub parts_at : List Place → List PassPart
-parts_at [] = []
-parts_at (p ∷ ps) = with_part p.part (parts_at ps)
+abbrev pub parts_in : List Lasting → List PassPart
+parts_in [] = []
+parts_in (l ∷ ls) = with_part l.0 (parts_in ls)
 
 -- the parts of a crew's table
 abbrev pub parts_of : Crew → List PassPart
-parts_of c = parts_at c.places.items
+parts_of c = parts_in (lasting_of c)
 
 -- the nodes with plain labels that are counted at the places, as a sum that stops at the greatest number of 64 bits
-abbrev pub plain_at : List Place → ℕ
-plain_at ps = min (weigh (λ (p : Place). p.plain_nodes) ps) (2 ^ 64 - 1)
+abbrev pub plain_in : List Lasting → ℕ
+plain_in ls = min (weigh (λ (l : Lasting). l.1) ls) (2 ^ 64 - 1)
 
 abbrev pub plain_nodes_of : Crew → ℕ
-plain_nodes_of c = plain_at c.places.items
+plain_nodes_of c = plain_in (lasting_of c)
 
--- a part of the table with one seat stands at the place
-pub record IsManned (rows : Rows) (p : Place) : Type 0 where
-  pub part : PassPart
-  pub has : p.part ≡ Some part
+-- the part is of the table and has one seat
+pub record IsSeated (rows : Rows) (part : PassPart) : Type 0 where
   pub of : IsPartOf rows part
   pub one_seat : (view_of part).seats ≡ 1
+
+-- such a part stands at each place
+abbrev pub IsMannedBy : Rows → Option PassPart → Type 0
+IsMannedBy rows (Some part) = IsSeated rows part
+IsMannedBy rows None = ⊥
+
+abbrev pub AreManned : Rows → List Lasting → Type 0
+AreManned rows [] = Unit {0}
+AreManned rows (l ∷ ls) = IsMannedBy rows l.0 × AreManned rows ls
+
+-- a new part of the table stands at the place, and nothing is counted
+abbrev pub IsNewPlace : Rows → Lasting → Type 0
+IsNewPlace rows l = (part : PassPart) × (l.0 ≡ Some part) × IsPartOf rows part × IsFresh part × (l.1 ≡ 0)
+
+abbrev pub AreNewPlaces : Rows → List Lasting → Type 0
+AreNewPlaces rows [] = Unit {0}
+AreNewPlaces rows (l ∷ ls) = IsNewPlace rows l × AreNewPlaces rows ls
 
 -- A grammar that is accepted with its normal form, a table that was made for it by lawful options, and a place with a part for each worker.
 pub record IsCrew (c : Crew) : Type 0 where
   pub form : IsAcceptedForm (grammar_of c) (normal_of c)
   pub lawful : AreLawful (options_of c)
   pub setting : IsSettingOf (setting_of c.rows) (normal_of c) (options_of c).states (options_of c).rows (options_of c).workers
-  pub manned : (p : Place) → In p c.places.items → IsManned c.rows p
+  pub manned : AreManned c.rows (lasting_of c)
   pub count : length c.places.items ≡ (options_of c).workers
 
 -- it was begun with these

@@ -6,6 +6,7 @@ ghost use Rattle.sel_crew.specs.Answers.{AreAnswersOf};
 ghost use Rattle.sel_crew.specs.Options.{AreLawful, room_by};
 ghost use Rattle.sel_crew.specs.Reports.{TellsCounted, TellsWhole, TellsPlainNodes};
 
+use crate::crew::Crew;
 use crate::options::Options;
 use crate::report::Report;
 use sel_base::{Gate, List, NoMemory};
@@ -36,5 +37,8 @@ pub fn answer_forest<Rt: Threads + Sync, G: Gate + Sync>(
     ensures whole { IfOk result (λ r. TellsWhole grammar.now (room_by options) forest.now.trees r.1) }
     ensures plain { IfOk result (λ r. TellsPlainNodes grammar.now forest.now.trees r.1) }
 {
-    Err(NoMemory)
+    let mut crew = Crew::begin(alloc, grammar, normal, options)?;
+    let answers = crew.answer(rt, alloc, forest.trees.as_slice(), 0, goal, gate)?;
+    let report = crew.finish(alloc)?;
+    Ok((answers, report))
 }

@@ -7,10 +7,11 @@ ghost use Rattle.sel_crew.specs.Answers.{AreAnswersOf};
 ghost use Rattle.sel_crew.specs.Crews.{grammar_of, IsCrew, IsBegunWith, IsNewCrew, HasAskedOnly, KeepsAll, CountsPlainOf, IsSameCrew, KeepsMarks, AsksOnlyMore, KeepsMore, CountsMore};
 ghost use Rattle.sel_crew.specs.Options.{AreLawful};
 
+use crate::batch::answer_at;
+use crate::making::place_all;
 use crate::options::Options;
 use crate::place::Place;
 use sel_base::{Gate, List, NoMemory};
-use sel_closing::laws::parts_ask_only;
 use sel_forest::Tree;
 use sel_grammar::Grammar;
 use sel_normal::Normal;
@@ -46,7 +47,21 @@ impl<'c> Crew<'c> {
         ensures kept { IfOk result (KeepsAll []) }
         ensures counted { IfOk result (CountsPlainOf []) }
     {
-        Err(NoMemory)
+        let (rows, parts) = Rows::new(
+            alloc,
+            normal,
+            options.states,
+            options.rows,
+            options.workers,
+        )?;
+        let places = place_all(alloc, &rows, parts)?;
+        Ok(Crew {
+            grammar,
+            normal,
+            options,
+            rows,
+            places,
+        })
     }
 
     /// The answers of the trees, in their order. The gate is passed round each tree, with the worker's number and the
@@ -73,7 +88,17 @@ impl<'c> Crew<'c> {
         ensures answered { OnOk result (KeepsMore trees.now self.old self.new) }
         ensures counted { OnOk result (CountsMore trees.now self.old self.new) }
     {
-        parts_ask_only();
-        Err(NoMemory)
+        answer_at(
+            rt,
+            alloc,
+            self.grammar,
+            self.normal,
+            &self.rows,
+            self.places.as_mut_slice(),
+            trees,
+            first,
+            goal,
+            gate,
+        )
     }
 }

@@ -7,7 +7,9 @@ ghost use Rattle.sel_crew.specs.Reports.{IsReportOf, TellsCounted, TellsWhole, T
 
 use crate::crew::Crew;
 use crate::report::Report;
-use sel_base::NoMemory;
+use crate::tally::{evaluated_in, plain_at, take_parts};
+use sel_base::{List, NoMemory};
+use sel_closing::{Closed, close};
 use std::alloc::Global;
 
 impl<'c> Crew<'c> {
@@ -19,6 +21,24 @@ impl<'c> Crew<'c> {
         ensures whole { IfOk result (λ report. (trees : List Tree) → AreValid (grammar_of self.entry) trees → HasAskedOnly trees self.entry → KeepsAll trees self.entry → TellsWhole (grammar_of self.entry) (room_of self.entry) trees report) }
         ensures plain { IfOk result (λ report. (trees : List Tree) → CountsPlainOf trees self.entry → TellsPlainNodes (grammar_of self.entry) trees report) }
     {
-        Err(NoMemory)
+        let Crew {
+            grammar: _,
+            normal: _,
+            options: _,
+            rows,
+            mut places,
+        } = self;
+        let plain_nodes = plain_at(places.as_slice());
+        let mut parts = Vec::new(alloc);
+        take_parts(places.as_mut_slice(), &mut parts)?;
+        let evaluated = evaluated_in(parts.as_slice());
+        let Closed { snapshot, marks } = close(rows, alloc, List::from_vec(parts))?;
+        Ok(Report {
+            evaluated,
+            plain_nodes,
+            row_full: marks.row_full,
+            used_up: marks.used_up,
+            snapshot: Some(snapshot),
+        })
     }
 }

@@ -2,11 +2,22 @@
 #![tactic(auto)]
 
 mod answering;
+mod batch;
 mod crew;
 mod finishing;
+mod gathering;
+mod making;
 mod options;
+mod passing;
 mod place;
 mod report;
+mod seats;
+mod serving;
+mod tally;
+mod task;
+mod tree;
+mod turn;
+mod worker;
 
 pub use answering::answer_forest;
 pub use crew::Crew;
