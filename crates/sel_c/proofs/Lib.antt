@@ -1,0 +1,2 @@
+mod BareSteps
+mod TableSteps
