@@ -1,2 +1,3 @@
 mod BareSteps
 mod TableSteps
+mod Telling
