@@ -61,6 +61,11 @@ struct sel_answer sel_open(struct sel *sel, const uint8_t *text, size_t text_len
 /* Frees what the handle holds, and leaves SEL_NONE. A closed one stays closed. */
 void sel_close(struct sel *sel);
 
+/* How many states and transitions may be kept from now on (4,096 and 65,536 after sel_open; at most 32,768 and
+ * 1,048,576). What was learned is forgotten. It changes speed and memory, and never an answer. false, and no change:
+ * the handle is closed, or that is too many. */
+bool sel_room(struct sel *sel, uint32_t states, uint32_t rows);
+
 /* The text of the cheapest cover of the one tree that the line spells, as ASGN(ADD(REG:rbp,CNST:-8),CNST:0):
  * `needs` bytes at the front of `out`, with no 0 behind them. Temporaries are t1, t2, .. in each tree. Asked with
  * out_len 0, SEL_SHORT tells cost and length. */

@@ -2,6 +2,5 @@ pub mod Answers
 pub mod Codes
 pub mod Held
 pub mod Openings
-pub mod Operators
 pub mod Rooms
 pub mod Usable

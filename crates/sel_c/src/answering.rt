@@ -81,12 +81,7 @@ fn answer_by<L: Ledger>(
 }
 
 /// The answer of the tree. What the automaton has learned stays.
-fn answer(
-    alloc: Global,
-    table: &mut Accepted,
-    tree: &Tree,
-    goal: Goal,
-) -> Result<Answer, NoMemory>
+fn answer(alloc: Global, table: &mut Accepted, tree: &Tree, goal: Goal) -> Result<Answer, NoMemory>
     requires usable { IsUsable table.old }
     requires tree { IsValidTree table.old.grammar tree.now }
     ensures answer { IfOk result (IsAnswerOf table.old.grammar goal tree.now) }

@@ -21,10 +21,7 @@ impl<T: Drop, A: Allocator> Bare<T, A> {
         ensures { result.value ≡ boxed.value }
     {
         let (at, alloc) = Box::into_raw_with_allocator(boxed);
-        Bare {
-            at,
-            alloc,
-        }
+        Bare { at, alloc }
     }
 
     pub(crate) fn into_box(self) -> Box<T, A>

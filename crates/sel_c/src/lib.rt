@@ -6,7 +6,6 @@ ghost use Rattle.sel_work.specs.declared.answer.Goal.TheVariants as goals;
 ghost use Rattle.sel_c.specs.Usable.{IsUsable, IsSameSelector};
 ghost use Rattle.sel_c.specs.Answers.{TellsText, TellsRules, TellsOfHeldLine};
 ghost use Rattle.sel_c.specs.Openings.{TellsOfOpening};
-ghost use Rattle.sel_c.specs.Operators.{IsOperatorNumber};
 ghost use Rattle.sel_c.specs.Rooms.{MakesRoom};
 
 mod accepted;
@@ -16,18 +15,17 @@ mod handle;
 mod held;
 mod line;
 mod opening;
-mod operators;
 mod told;
 
 use handle::Handle;
 use line::{line_rules, line_text};
 use opening::{accept, tell_unopened};
-use operators::{NO_OPERATOR, operator_number};
 use std::alloc::Global;
 use told::{DONE, IS_CLOSED, IS_OPEN, Told};
 
 /// The most states and transitions that may be kept.
 const MOST_STATES: u32 = 32_768;
+
 const MOST_ROWS: u32 = 1_048_576;
 
 /// Takes up the grammar that the text spells, in a handle that is closed.
@@ -121,22 +119,5 @@ pub extern "C" fn sel_room(alloc: Global, sel: &mut Handle, states: u32, rows: u
             true
         }
         None => false,
-    }
-}
-
-/// The number of the operator of this name, or the greatest number of 32 bits where there is none.
-#[unsafe(no_mangle)]
-pub extern "C" fn sel_operator(alloc: Global, sel: &mut Handle, name: &[u8]) -> u32
-    requires usable { IfSome sel.old.held.table IsUsable }
-    ensures number { IsOperatorNumber sel.old.held.table name.now result }
-    ensures same { sel.new.held.table ≡ sel.old.held.table }
-{
-    match sel.take(alloc) {
-        Some(table) => {
-            let number = operator_number(&table.grammar, name);
-            sel.put(table);
-            number
-        }
-        None => NO_OPERATOR,
     }
 }

@@ -8,7 +8,7 @@ ghost use Rattle.sel_c.specs.Answers.{SpellsOneTree, IsUnread, told_unread, Tell
 
 use crate::accepted::Accepted;
 use crate::answering::{tell_rules, tell_text};
-use crate::told::{BAD_FOREST, NOT_ONE, NO_MEMORY, TOO_BIG, Told};
+use crate::told::{BAD_FOREST, NO_MEMORY, NOT_ONE, TOO_BIG, Told};
 use sel_forest::{ForestFault, ForestRefusal, Tree, read_forest};
 use sel_grammar::Grammar;
 use std::alloc::Global;
@@ -55,9 +55,7 @@ fn tell_unread(why: Unread) -> Told
     ensures { result ≡ told_unread why }
 {
     match why {
-        Unread::Fault(fault) => {
-            Told::of_fault(BAD_FOREST, fault.kind, fault.line, fault.column)
-        }
+        Unread::Fault(fault) => { Told::of_fault(BAD_FOREST, fault.kind, fault.line, fault.column) }
         Unread::NotOne => Told::of_code(NOT_ONE),
         Unread::TooBig => Told::of_code(TOO_BIG),
         Unread::NoMemory => Told::of_code(NO_MEMORY),

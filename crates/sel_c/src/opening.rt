@@ -16,6 +16,7 @@ const GRAMMAR_LIMIT: usize = 16_777_216;
 
 /// How many states and transitions are kept, where nothing else was asked for.
 const STATES: u32 = 4_096;
+
 const ROWS: u32 = 65_536;
 
 /// Why no grammar was taken up.

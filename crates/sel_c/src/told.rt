@@ -5,15 +5,25 @@ ghost use Rattle.sel_c.specs.Codes.{told_code, told_fault, told_cost};
 use sel_base::Pair;
 
 pub const DONE: u32 = 0;
+
 pub const NO_COVER: u32 = 1;
+
 pub const TOO_LONG: u32 = 2;
+
 pub const SHORT: u32 = 3;
+
 pub const BAD_GRAMMAR: u32 = 4;
+
 pub const BAD_FOREST: u32 = 5;
+
 pub const NOT_ONE: u32 = 7;
+
 pub const TOO_BIG: u32 = 8;
+
 pub const NO_MEMORY: u32 = 9;
+
 pub const IS_OPEN: u32 = 10;
+
 pub const IS_CLOSED: u32 = 11;
 
 /// What a call tells: its code, and what belongs to it. The rest is 0.
