@@ -1,0 +1,3 @@
+mod BareSteps
+mod TableSteps
+mod Telling

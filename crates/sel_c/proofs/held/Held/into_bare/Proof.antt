@@ -1,0 +1,57 @@
+-- `into_bare` moves two fields, and the table goes with them: one is held.
+use Rattle.std.proofs.Common.{◌≡◌, Some, IsSome, List, [], ◌∷◌, ◌++◌, refl, sym, ap, subst}
+use mir.Val.{Val}
+use base.Logic.{SProp, ent, emp, id⊢}
+use base.Fml.{ftrue}
+use prog.Wp.{WpFn}
+use types.Kit.{Item, ‵, raw, ◌⊛◌, ◌$◌, ◌∵◌, !, qed, by, keep, move, drop, suffices, use0, use1, split, fsplit, fjoin, rewrite}
+use types.Run.{stop, fld, of_opd, no_more, and_then, returns, enter}
+use types.ByLocal.{alloc_all, pass_all, free_all, look_at, get, get_in, sets}
+use types.Part.{agg, sub, whole}
+use contract.Monad.{fact, fact_i}
+use contract.Running.{tables}
+use denote.Exit.{yes}
+use denote.RattleType.{owns}
+use denote.Signature.{types_at}
+use denote.RawPtr.{block_ptr}
+use denote.Steps.{nothing, heard}
+use denote.Triple.Walked.{Stays, stay_dropped, Goes-dropped, walk_of}
+use Rattle.std_alloc.proofs.BoxSteps.Form.{word, box_typed}
+use Rattle.std_alloc.proofs.BoxSteps.Steps.{box_out}
+use Rattle.std.proofs.raw_atomic.Walks.{proved_at, leaves}
+use Rattle.sel_c.proofs.BareSteps.{bare_in}
+use Rattle.sel_c.proofs.TableSteps.{E, OfHeld, table_of}
+use Rattle.sel_c.specs.Held.{MaybeTable}
+use Rattle.sel_c.specs.contracts.held.Held as place
+use Rattle.sel_c.specs.contracts.held.Held.into_bare as f
+use Rattle.sel_c.proofs.held.Held.into_bare.Statement.{statement}
+use Rattle.sel_c.proofs.held.Held.into_bare.Code as code
+
+abbrev stayed : Stays f.ended.signature.params f.ended.kept
+stayed = (stay_dropped OfHeld yes, tt)
+
+pub into_bare_spec : {M : Type 1} → statement M
+into_bare_spec 𝓤 𝓛 𝓜 𝓡 wired =
+    let c = f.clauses 𝓛 𝓜.mem 𝓡.returns in let 𝓣 = tables 𝓤 𝓛.H 𝓜 𝓡 𝓡.env in
+    proved_at 𝓛 f.ended stayed c 𝓜 𝓡 (Goes-dropped 𝓛 0 OfHeld yes (λ κs x w. refl), tt) f.Key.name code.function (code.unfolded 𝓤 𝓛.H 𝓜 𝓡 wired) (λ y are.
+    let held = y.0.3.0 in
+    let Post : Val → SProp 𝓤 = (walk_of 𝓛 f.ended stayed c).post y in
+    let runs : List Val → SProp 𝓤 = λ ws. WpFn 𝓤 𝓛.H 𝓣.C 𝓣.Λ code.function ws Post in
+    -- [what is required; the tokens, the place]
+    qed 𝓛 ((‵ ftrue ⊛ ‵ (owns (types_at f.ended.signature.params y.0.0) y.0.3 y.0.4)) ∷ raw ((c y.0.0 y.0.3).requires y.1) ∷ []) ∵
+    move ! (1 ∷ []) $ heard ! (IsSome held.table) (λ has. let x = (table_of held.table has).0 in let is = (table_of held.table has).1 in
+    split ! $ move ! (1 ∷ []) $ fsplit ! $
+    rewrite ! 0 (λ (o : MaybeTable). ‵ (place.the_row.own_val (record held { table = o }) y.0.4.0)) is refl $
+    box_out E ! (record { ptr = held.at; alloc = held.alloc; value = x }) y.0.4.0 (λ b o h e ws fits.
+    -- [the table; the right to free it; the handle; nothing; the tokens]
+    let w = word E h b o in
+    suffices ! (runs (w ∷ [])) (subst (λ us. ent 𝓤 (runs (w ∷ [])) (runs us)) (sym (ap (λ us. us ++ []) ws)) (id⊢ 𝓤 _)) $
+    enter ! 𝓣.C 𝓣.Λ code.function (w ∷ []) Post $ alloc_all ! (λ l. pass_all ! refl (box_typed E h b o fits, tt) $
+    sets ! (of_opd ! (get_in ! (fld ! refl (stop !)) (sub ! 0 refl (whole !)))) refl (tt, tt) $
+    sets ! (of_opd ! (get_in ! (fld ! refl (stop !)) (sub ! 1 refl (whole !)))) refl fits $
+    sets ! (of_opd ! (get ! refl)) refl (tt, tt) $
+    sets ! (agg ! (and_then ! (get ! refl) (and_then ! (get ! refl) (no_more !)))) refl (box_typed E h b o fits) $
+    returns ! (look_at ! 0 refl) $ free_all ! refl $
+    bare_in E ! h held.alloc x b o $
+    use0 𝓛 (raw (fact 𝓤 (held.table ≡ Some x))) (fact_i 𝓤 (held.table ≡ Some x) (emp 𝓤) is) $ nothing ! $ nothing ! $ fjoin ! $
+    keep ! (4 ∷ 0 ∷ 2 ∷ 1 ∷ []) $ by ! (leaves 𝓛 f.ended stayed c y w (record { at = block_ptr b o; alloc = held.alloc; value = x }) (tt, tt) (tt, tt))))))
