@@ -1,16 +1,20 @@
 -- Lists of words, with what they ask for, by hand.
-use Rattle.std.proofs.Common.{◌≡◌, [], ◌∷◌, Option, Some, None, refl, codes}
+use Rattle.std.proofs.Common.{◌≡◌, ℕ, List, [], ◌∷◌, Option, Some, None, refl, codes}
 use Rattle.sel_words.specs.declared.settings.Settings.{Settings}
-use Rattle.sel_words.specs.declared.words.Mode.TheVariants.{Cover, Select, Print}
+use Rattle.sel_words.specs.declared.words.Mode.TheVariants.{Cover, Select, Print, Certify, Regs}
 use Rattle.sel_targets.specs.Rv64i.{rv64i_text}
 use Rattle.sel_targets.specs.X8664.{x86_64_text}
-use Rattle.sel_words.specs.Words.{Task, PrintGrammar, OverForest, Held, Shipped, command}
+use Rattle.sel_words.specs.Registers.{register_names}
+use Rattle.sel_words.specs.Words.{Task, PrintGrammar, OverForest, Check, Held, Shipped, command}
 
 abbrev plain_settings : Settings
 plain_settings = record { workers = 4; states = 4096; rows = 65536; seed = 1; trees = 1000; size = 64 }
 
+abbrev plain_registers : List (List ℕ)
+plain_registers = codes "r0" ∷ codes "r1" ∷ codes "r2" ∷ codes "r3" ∷ codes "r4" ∷ codes "r5" ∷ codes "r6" ∷ codes "r7" ∷ []
+
 abbrev plain : Settings → Option Task
-plain settings = Some (record { job = OverForest Cover (codes "f"); grammar = codes "g0"; source = Held; settings = settings })
+plain settings = Some (record { job = OverForest Cover (codes "f"); grammar = codes "g0"; source = Held; settings = settings; registers = plain_registers })
 
 abbrev no : Option Task
 no = None
@@ -18,7 +22,7 @@ no = None
 three_words : command (codes "cover" ∷ codes "g0" ∷ codes "f" ∷ []) ≡ plain plain_settings
 three_words = refl
 
-selected : command (codes "select" ∷ codes "g0" ∷ codes "f" ∷ []) ≡ Some (record { job = OverForest Select (codes "f"); grammar = codes "g0"; source = Held; settings = plain_settings })
+selected : command (codes "select" ∷ codes "g0" ∷ codes "f" ∷ []) ≡ Some (record { job = OverForest Select (codes "f"); grammar = codes "g0"; source = Held; settings = plain_settings; registers = plain_registers })
 selected = refl
 
 select_of_two : command (codes "select" ∷ codes "g0" ∷ []) ≡ no
@@ -36,10 +40,10 @@ behind_hyphens = refl
 no_words : command [] ≡ no
 no_words = refl
 
-grammar_alone : command (codes "print" ∷ codes "g0" ∷ []) ≡ Some (record { job = PrintGrammar; grammar = codes "g0"; source = Held; settings = plain_settings })
+grammar_alone : command (codes "print" ∷ codes "g0" ∷ []) ≡ Some (record { job = PrintGrammar; grammar = codes "g0"; source = Held; settings = plain_settings; registers = plain_registers })
 grammar_alone = refl
 
-forest_printed : command (codes "print" ∷ codes "--size" ∷ codes "7" ∷ codes "g0" ∷ codes "f" ∷ []) ≡ Some (record { job = OverForest Print (codes "f"); grammar = codes "g0"; source = Held; settings = record plain_settings { size = 7 } })
+forest_printed : command (codes "print" ∷ codes "--size" ∷ codes "7" ∷ codes "g0" ∷ codes "f" ∷ []) ≡ Some (record { job = OverForest Print (codes "f"); grammar = codes "g0"; source = Held; settings = record plain_settings { size = 7 }; registers = plain_registers })
 forest_printed = refl
 
 print_of_three : command (codes "print" ∷ codes "g0" ∷ codes "f" ∷ codes "f" ∷ []) ≡ no
@@ -64,10 +68,10 @@ unknown : command (codes "cover" ∷ codes "g0" ∷ codes "f" ∷ codes "-x" ∷
 unknown = refl
 
 -- a shipped grammar is named by its own name alone, behind `--` too
-selected_shipped : command (codes "select" ∷ codes "@rv64i" ∷ codes "f" ∷ []) ≡ Some (record { job = OverForest Select (codes "f"); grammar = codes "@rv64i"; source = Shipped rv64i_text; settings = plain_settings })
+selected_shipped : command (codes "select" ∷ codes "@rv64i" ∷ codes "f" ∷ []) ≡ Some (record { job = OverForest Select (codes "f"); grammar = codes "@rv64i"; source = Shipped rv64i_text; settings = plain_settings; registers = register_names (codes "t0,t1,t2,t3,t4,t5,t6") })
 selected_shipped = refl
 
-printed_shipped : command (codes "print" ∷ codes "--" ∷ codes "@x86-64" ∷ []) ≡ Some (record { job = PrintGrammar; grammar = codes "@x86-64"; source = Shipped x86_64_text; settings = plain_settings })
+printed_shipped : command (codes "print" ∷ codes "--" ∷ codes "@x86-64" ∷ []) ≡ Some (record { job = PrintGrammar; grammar = codes "@x86-64"; source = Shipped x86_64_text; settings = plain_settings; registers = codes "r8" ∷ codes "r9" ∷ codes "r10" ∷ codes "r11" ∷ [] })
 printed_shipped = refl
 
 not_shipped : command (codes "cover" ∷ codes "@mips" ∷ codes "f" ∷ []) ≡ no
@@ -87,3 +91,30 @@ largest_seed = refl
 
 seed_too_large : command (codes "cover" ∷ codes "g0" ∷ codes "f" ∷ codes "--seed=18446744073709551616" ∷ []) ≡ no
 seed_too_large = refl
+
+certified : command (codes "certify" ∷ codes "g0" ∷ codes "f" ∷ []) ≡ Some (record { job = OverForest Certify (codes "f"); grammar = codes "g0"; source = Held; settings = plain_settings; registers = plain_registers })
+certified = refl
+
+checked : command (codes "check" ∷ codes "g0" ∷ codes "f" ∷ codes "c" ∷ []) ≡ Some (record { job = Check (codes "f") (codes "c"); grammar = codes "g0"; source = Held; settings = plain_settings; registers = plain_registers })
+checked = refl
+
+check_of_two : command (codes "check" ∷ codes "g0" ∷ codes "f" ∷ []) ≡ no
+check_of_two = refl
+
+certify_of_three : command (codes "certify" ∷ codes "g0" ∷ codes "f" ∷ codes "c" ∷ []) ≡ no
+certify_of_three = refl
+
+registered : command (codes "regs" ∷ codes "g0" ∷ codes "f" ∷ codes "--registers" ∷ codes "a,b" ∷ []) ≡ Some (record { job = OverForest Regs (codes "f"); grammar = codes "g0"; source = Held; settings = plain_settings; registers = codes "a" ∷ codes "b" ∷ [] })
+registered = refl
+
+same_register : command (codes "regs" ∷ codes "g0" ∷ codes "f" ∷ codes "--registers" ∷ codes "a,a" ∷ []) ≡ no
+same_register = refl
+
+no_register : command (codes "regs" ∷ codes "g0" ∷ codes "f" ∷ codes "--registers=" ∷ []) ≡ no
+no_register = refl
+
+long_register : command (codes "regs" ∷ codes "g0" ∷ codes "f" ∷ codes "--registers=abcdefghijklmno1" ∷ []) ≡ no
+long_register = refl
+
+longest_register : command (codes "regs" ∷ codes "g0" ∷ codes "f" ∷ codes "--registers=abcdefghijklmno" ∷ []) ≡ Some (record { job = OverForest Regs (codes "f"); grammar = codes "g0"; source = Held; settings = plain_settings; registers = codes "abcdefghijklmno" ∷ [] })
+longest_register = refl

@@ -48,6 +48,7 @@ fn command_line<'a>(alloc: Global) -> Result<Command<'a>, AllocError>
     let line = with_option(line, alloc, "seed")?;
     let line = with_option(line, alloc, "trees")?;
     let line = with_option(line, alloc, "size")?;
+    let line = with_option(line, alloc, "registers")?;
     with_plain_words(line, alloc)
 }
 
