@@ -2,7 +2,7 @@
 use Rattle.std.proofs.Common.{◌≡◌, ℕ, ◌≤◌, ◌==◌, length, sym, Bool, true, false, ◌&&◌, List, [], ◌∷◌, Option, Some, None, refl, ap, subst, arith, leb-true, codes}
 use Rattle.std.proofs.lemmas.List.Splits.{length-slice_split}
 use Rattle.std.specs.List.{list_all}
-use Rattle.std.specs.Prelude.{nat_le, bytes_eq, option_and_then, option_map, if◌then◌else◌}
+use Rattle.std.specs.Prelude.{nat_le, bytes_eq, unwrap_or, option_and_then, option_map, if◌then◌else◌}
 use Rattle.std.specs.Str.Parse.{digits_value}
 use Rattle.sel_words.specs.declared.settings.Bounds.{Bounds}
 use Rattle.sel_words.specs.declared.settings.Settings.{Settings}
@@ -172,4 +172,4 @@ pub command_registers : (words : List (List ℕ)) (task : Task) → command word
 command_registers words task e =
     let a = asked_parts words task e in
     subst AreRegisters a.has.registers_are
-    (registers_if (chosen_registers a.given task.grammar) (names_some _) (given_lawful (values_for (codes "registers") a.parts.given) a.given task.grammar a.gave))
+    (registers_if (chosen_registers a.given task.grammar) (names_some (unwrap_or a.given (default_registers task.grammar))) (given_lawful (values_for (codes "registers") a.parts.given) a.given task.grammar a.gave))

@@ -7,7 +7,7 @@ ghost use Rattle.sel_words.specs.Registers.{register_names, is_register, are_dif
 
 use clap::ArgMatches;
 use sel_base::NoMemory;
-use std::alloc::Global;
+use std::alloc::{AllocError, Global};
 
 /// The most registers that have names.
 const MOST_REGISTERS: usize = 64;
@@ -74,11 +74,17 @@ fn are_registers(names: &[&str]) -> bool
     names.len() <= MOST_REGISTERS && are_all_registers(names) && are_different(names)
 }
 
+fn parts_of(alloc: Global, text: &str) -> Result<Vec<&str>, AllocError>
+    ensures { IfOk result (λ names. map (λ name. name.now) names.items ≡ register_names text.now) }
+{
+    text.split(',').collect(alloc)
+}
+
 /// The names in a text, between its commas.
 pub fn register_names(alloc: Global, text: &str) -> Result<Vec<&str>, NoMemory>
     ensures { IfOk result (λ names. map (λ name. name.now) names.items ≡ register_names text.now) }
 {
-    Ok(text.split(',').collect(alloc)?)
+    Ok(parts_of(alloc, text)?)
 }
 
 fn is_register_list(alloc: Global, text: &str) -> Result<bool, NoMemory>

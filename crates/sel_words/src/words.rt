@@ -191,6 +191,7 @@ fn asked_by<'a>(alloc: Global, found: &ArgMatches<'a>) -> Result<Option<Command<
 pub fn read_words<'a>(alloc: Global, words: &'a [String]) -> Result<Option<Command<'a>>, NoMemory>
     ensures exact { IfOk result (λ answer. option_map task_for answer ≡ command (map string_bytes words.now)) }
     ensures short { IfOk result (λ answer. IfSome answer (λ command. IsShort (source_for command.source))) }
+    ensures registers { IfOk result (λ answer. IfSome answer (λ command. AreRegisters (register_names command.registers.now))) }
 {
     let Some(found) = take_apart(alloc, words)? else {
         return Ok(None);
