@@ -1,6 +1,6 @@
 -- Each label of a labelled tree means an item set.
-use Rattle.std.proofs.Common.{◌≡◌, ℕ, zero, suc, ◌<◌, Option, Some, None, List, [], ◌∷◌, length, sym, ◌∙◌, subst, arith}
-use Rattle.std.specs.Prelude.{slice_get}
+use Rattle.std.proofs.Common.{◌≡◌, ℕ, zero, suc, ◌<◌, Option, Some, None, List, [], ◌∷◌, length, refl, sym, ◌∙◌, subst, arith}
+use Rattle.std.specs.Prelude.{slice_get, slice_index_or}
 use Rattle.sel_grammar.specs.declared.grammar.Grammar.{Grammar}
 use Rattle.sel_forest.specs.declared.forest.Tree.{Tree}
 use Rattle.sel_forest.specs.Valid.{IsValidTree}
@@ -28,3 +28,9 @@ each_means g told tree labels valid h k l at =
     let node = valid_node g tree k valid (subst (λ n. k < n) h.long lt) in
     let m = h.mean k node.0 node.1 in
     (m.2.0, subst (λ x. told.means x m.2.0) (some_is m.0 l (sym m.1 ∙ at)) m.2.1)
+
+-- what stands at an index within a list
+pub get_index : {A : Type 0} (xs : List A) (k : ℕ) (d : A) → k < length xs → slice_get xs k ≡ Some (slice_index_or xs k d)
+get_index [] k d lt = absurd (omega arith)
+get_index (x ∷ xs) zero d lt = refl
+get_index (x ∷ xs) (suc k) d lt = get_index xs k d (omega arith)

@@ -1,4 +1,5 @@
-use Rattle.std.proofs.Common.{◌≡◌, ◌+◌, arith}
+use Rattle.std.proofs.Common.{◌≡◌, ◌+◌, sym, subst, arith}
+use Rattle.sel_rows.specs.Tables.{ArePartsOf}
 use Rattle.sel_rows_threads.proofs.Gathered.{last_report, front_reports, more_parts, more_seats, long_by_one}
 use Rattle.sel_rows_threads.proofs.crew.gather.Goals as goal
 
@@ -23,3 +24,6 @@ loop-report-preserved c =
       parts = more_parts rows more parts report.part parts_are i.parts one.0;
       seats = omega arith;
     }
+
+pub returns-clause-of : goal.returns-clause-of
+returns-clause-of c = subst (ArePartsOf c.args.rows.now) (sym c.from_vec.ensures) c.loop-report.invariant.parts

@@ -3,8 +3,8 @@ use Rattle.sel_rows_threads.specs.Reports.{IsReportOf}
 use Rattle.sel_rows_threads.proofs.Gathered.{at_index, index_in}
 use Rattle.sel_rows_threads.proofs.crew.label_at_once.Goals as goal
 
-pub map_vec-reports-requires : goal.map_vec-reports-requires
-map_vec-reports-requires g c = λ i x lt e.
+pub map_vec-requires-after_bounds : goal.map_vec-requires-after_bounds
+map_vec-requires-after_bounds g c = λ i x lt e.
     let there = index_in c.args.parts.items x i lt e in
     (c.requires.parts x there, (c.requires.fresh x there).one_seat, c.requires.normal, c.requires.forest)
 
