@@ -5,7 +5,7 @@ ghost use Rattle.sel_items.specs.declared.items.Items.{Items};
 ghost use Rattle.sel_items.specs.Follows.{key_of};
 ghost use Rattle.sel_full.specs.Numbering.{NumbersMore, AreNumbers, IsGapFor};
 ghost use Rattle.sel_full.specs.Tables.{kids_by, keys_of, keys_below, all_keys, occurring};
-ghost use Rattle.sel_full.specs.Taking.{AreStates, MayTake, key_at};
+ghost use Rattle.sel_full.specs.Taking.{AreKidStates, MayTake, key_at};
 
 use crate::gap::Gap;
 use crate::places::{class_at, class_count, kids_by};
@@ -27,7 +27,7 @@ fn number_key(
     second: Option<u16>,
 ) -> Result<(), Gap>
     requires few { length states.now < 65536 }
-    requires are { AreStates normal.now states.now }
+    requires sets { AreKidStates normal.now states.now }
     requires may { MayTake normal.now states.now operator class first second }
     ensures numbers { OnOk result (NumbersMore normal.now states.now numbers.old numbers.new (key_at states.now operator class first second ∷ [])) }
     ensures gap { IfErr result (IsGapFor normal.now states.now) }
@@ -51,7 +51,7 @@ fn number_classes(
     operator: u8,
 ) -> Result<(), Gap>
     requires few { length states.now < 65536 }
-    requires are { AreStates normal.now states.now }
+    requires sets { AreKidStates normal.now states.now }
     requires leaf { kids_by normal.now.rules operator ≡ Some 0 }
     ensures numbers { OnOk result (NumbersMore normal.now states.now numbers.old numbers.new (map (λ class. key_of operator class []) (occurring normal.now.tests))) }
     ensures gap { IfErr result (IsGapFor normal.now states.now) }
@@ -72,7 +72,7 @@ fn number_singles(
     operator: u8,
 ) -> Result<(), Gap>
     requires few { length states.now < 65536 }
-    requires are { AreStates normal.now states.now }
+    requires sets { AreKidStates normal.now states.now }
     requires one { kids_by normal.now.rules operator ≡ Some 1 }
     ensures numbers { OnOk result (NumbersMore normal.now states.now numbers.old numbers.new (map (λ i. key_of operator 0 (i ∷ [])) states.now)) }
     ensures gap { IfErr result (IsGapFor normal.now states.now) }
@@ -93,7 +93,7 @@ fn number_row(
     left: u16,
 ) -> Result<(), Gap>
     requires few { length states.now < 65536 }
-    requires are { AreStates normal.now states.now }
+    requires sets { AreKidStates normal.now states.now }
     requires two { kids_by normal.now.rules operator ≡ Some 2 }
     requires left { left < length states.now }
     ensures numbers { OnOk result ((i : Items) → slice_get states.now left ≡ Some i → NumbersMore normal.now states.now numbers.old numbers.new (map (λ j. key_of operator 0 (i ∷ j ∷ [])) states.now)) }
@@ -123,7 +123,7 @@ fn number_pairs(
     operator: u8,
 ) -> Result<(), Gap>
     requires few { length states.now < 65536 }
-    requires are { AreStates normal.now states.now }
+    requires sets { AreKidStates normal.now states.now }
     requires two { kids_by normal.now.rules operator ≡ Some 2 }
     ensures numbers { OnOk result (NumbersMore normal.now states.now numbers.old numbers.new (flat_map (λ i. map (λ j. key_of operator 0 (i ∷ j ∷ [])) states.now) states.now)) }
     ensures gap { IfErr result (IsGapFor normal.now states.now) }
@@ -143,7 +143,7 @@ fn number_operator(
     operator: u8,
 ) -> Result<(), Gap>
     requires few { length states.now < 65536 }
-    requires are { AreStates normal.now states.now }
+    requires sets { AreKidStates normal.now states.now }
     ensures numbers { OnOk result (NumbersMore normal.now states.now numbers.old numbers.new (keys_of normal.now states.now operator)) }
     ensures gap { IfErr result (IsGapFor normal.now states.now) }
 {
@@ -164,7 +164,7 @@ fn number_operator(
 /// The number of the state that follows from each key over the states, in the order of keys.
 pub fn number_all(alloc: Global, normal: &Normal, states: &States) -> Result<List<u16>, Gap>
     requires few { length states.now < 65536 }
-    requires are { AreStates normal.now states.now }
+    requires sets { AreKidStates normal.now states.now }
     ensures numbers { IfOk result (λ numbers. AreNumbers normal.now states.now numbers (all_keys normal.now states.now)) }
     ensures gap { IfErr result (IsGapFor normal.now states.now) }
 {

@@ -16,3 +16,6 @@ returns-in-Ok c =
 
 pub returns-in-Err-Missing : goal.returns-in-Err-Missing
 returns-in-Err-Missing c = absurd (subst (IsGapFor c.args.normal.now c.args.states.now) c.in-Err-Missing.field-0-is c.in-Err-Missing.ensures.gap (settled c.args.normal.now c.args.states.now c.is_standing.ensures c.requires.took))
+
+pub number_all-requires-clause-sets : goal.number_all-requires-clause-sets
+number_all-requires-clause-sets c = ((c.requires.found).are).sets
