@@ -1,6 +1,7 @@
 pub mod Automata
 pub mod Builds
 pub mod Finding
+pub mod Judging
 pub mod Laws
 pub mod Numbering
 pub mod Reach

@@ -27,7 +27,7 @@ fn find_states(alloc: Global, normal: &Normal, limits: Limits) -> Result<States,
     Ok(states)
 }
 
-fn copy(alloc: Global, items: &Items) -> Result<Items, NoMemory>
+pub fn copy(alloc: Global, items: &Items) -> Result<Items, NoMemory>
     ensures { IfOk result (λ copy. copy ≡ items.now) }
 {
     let mut entries = Vec::new(alloc);

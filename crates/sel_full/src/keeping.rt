@@ -40,7 +40,7 @@ fn is_dear_entry(entry: Option<Item>) -> bool
 }
 
 /// Whether an entry's cost has a number that is too great in amount.
-fn has_dear_entry(items: &Items) -> bool
+pub fn has_dear_entry(items: &Items) -> bool
     ensures yes { result ≡ true → HasDearEntry items.now }
     ensures no { result ≡ false → HasDearEntry items.now → ⊥ }
 {

@@ -4,6 +4,7 @@
 mod automaton;
 mod building;
 mod gap;
+mod judging;
 mod keeping;
 pub mod laws;
 mod numbering;
@@ -16,5 +17,6 @@ mod taking;
 
 pub use automaton::FullAutomaton;
 pub use building::build;
+pub use judging::judge;
 pub use print::print_table;
 pub use table::{Build, Table};
