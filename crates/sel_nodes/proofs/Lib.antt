@@ -1,0 +1,4 @@
+mod Grows
+mod Ends
+mod Marks
+mod Adds
