@@ -7,8 +7,7 @@
  *     const. With length 0 the pointer may be NULL. Each other pointer is neither NULL nor misaligned.
  *  2. A `struct sel` begins as SEL_NONE. From then on only these calls change it. Moving it is fine; after a copy only
  *     one of the two may be used, and closed once.
- *  3. A `struct sel` is in one call at a time. It may go from thread to thread where a lock, a start or a join orders
- *     the calls. Two threads at once use two of them.
+ *  3. A `struct sel` is in one call at a time, and stays on the thread that opened it. Each thread has its own.
  *  4. No call from a signal handler, nor in the forked child of a process with threads.
  *  5. malloc, realloc and free are of one allocator, which aligns to 16 (or as a smaller size's own power of two).
  *  6. libsel.a is for x86-64-v2 processors: no call checks that.

@@ -14,10 +14,8 @@ unsafe extern "C" {
     fn sel_line_text(sel: *mut Handle, line: *const u8, line_len: usize, out: *mut u8, out_len: usize) -> Answer;
 }
 
-/// A selector. A call has it alone, by `&mut`; another thread may have it (`Send`), two at once may not.
+/// A selector. A call has it alone, by `&mut`. It stays on its thread: the pointer in it is neither `Send` nor `Sync`.
 pub struct Selector(Handle);
-// SAFETY: the handle owns all that it points to, and nothing of it is tied to a thread.
-unsafe impl Send for Selector {}
 
 impl Selector {
     pub fn open(grammar: &[u8]) -> Result<Selector, Answer> {
@@ -48,20 +46,16 @@ fn main() {
     let words: Vec<String> = std::env::args().collect();
     let (grammar, forest) = (std::fs::read(&words[1]).unwrap(), std::fs::read(&words[2]).unwrap());
     let mut selector = Selector::open(&grammar).unwrap();
-    // on another thread, which has it alone
-    let out = std::thread::spawn(move || {
-        let (mut out, mut trees) = (Vec::new(), 0);
-        for line in forest.split(|b| *b == b'\n') {
-            let told = selector.text(line);
-            if matches!(&told, Err(why) if why.code == 7) { continue }
-            trees += 1;
-            match told {
-                Ok((told, text)) => { writeln!(out, "; tree {trees} cost {}", told.cost).unwrap(); out.extend(text) }
-                Err(why) if why.code == 1 => writeln!(out, "; tree {trees} no cover").unwrap(),
-                Err(why) => panic!("{why:?}"),
-            }
+    let (mut out, mut trees) = (Vec::new(), 0);
+    for line in forest.split(|b| *b == b'\n') {
+        let told = selector.text(line);
+        if matches!(&told, Err(why) if why.code == 7) { continue }
+        trees += 1;
+        match told {
+            Ok((told, text)) => { writeln!(out, "; tree {trees} cost {}", told.cost).unwrap(); out.extend(text) }
+            Err(why) if why.code == 1 => writeln!(out, "; tree {trees} no cover").unwrap(),
+            Err(why) => panic!("{why:?}"),
         }
-        out
-    }).join().unwrap();
+    }
     std::io::stdout().write_all(&out).unwrap();
 }
