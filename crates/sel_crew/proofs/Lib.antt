@@ -1,0 +1,10 @@
+pub mod Drawn
+pub mod Ends
+pub mod Gathered
+pub mod Lists
+pub mod Places
+pub mod Puts
+pub mod Trees
+pub mod Turns
+pub mod Worked
+pub mod Works
