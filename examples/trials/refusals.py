@@ -3,7 +3,8 @@
     python3 examples/trials/refusals.py PROGRAM FOLDER [MOST]
 
 For each mode, and for 1 and 4 workers, over the store's grammar and forest and over a made forest of
-@x86-64. Each run must end by itself: with the whole output and its status, or, where a growth was refused,
+@x86-64. Each run must end by itself: with the whole output and its status (and a front of its line, where
+there was no memory for that), or, where a growth was refused,
 with status 7, `no memory` and a front of that output; where a read was, with status 2; where a write was,
 with status 6 and a front. MOST is how many growths of one command are refused at most (2,000), spread over all.
 It needs cc. It writes how many runs of each kind it tried.
@@ -55,7 +56,7 @@ def main():
             for number in range(1, count + 1, max(1, count // most)):
                 ran = run(program, library, words, **{kind: number})
                 tried[kind] += 1
-                if (ran.returncode, ran.stdout, ran.stderr) == (whole.returncode, whole.stdout, whole.stderr):
+                if (ran.returncode, ran.stdout) == (whole.returncode, whole.stdout) and whole.stderr.startswith(ran.stderr):
                     continue
                 told += 1
                 if ran.returncode != status or not ran.stderr.startswith(line) or not whole.stdout.startswith(ran.stdout):
