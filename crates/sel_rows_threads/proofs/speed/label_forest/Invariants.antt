@@ -1,0 +1,5 @@
+use Rattle.std.proofs.Common.{◌≡◌}
+use Rattle.sel_rows_threads.proofs.speed.label_forest.Given as goal
+
+abbrev pub invariant-trees : goal.invariant-trees
+invariant-trees g l = record { same_normal : (g.A.Automaton.told l.automaton).normal ≡ l.normal }
