@@ -1,14 +1,27 @@
 /* A library to be loaded before the C library's: it refuses one growth of memory, one read or one write, counted
  * from the start of `main`. REFUSE_GROWTH, REFUSE_READ and REFUSE_WRITE say which one; REFUSE_COUNTS names a file
- * that gets the three counts at the end. */
+ * that gets the three counts at the end. REFUSE_IN names the program in which it refuses, where others are started
+ * on the way, as by valgrind. */
 #define _GNU_SOURCE
 #include <dlfcn.h>
 #include <errno.h>
 #include <stdatomic.h>
 #include <stdio.h>
 #include <stdlib.h>
+#include <string.h>
 #include <sys/syscall.h>
 #include <unistd.h>
+
+extern void *__libc_malloc(size_t);
+extern void *__libc_calloc(size_t, size_t);
+extern void *__libc_realloc(void *, size_t);
+extern void *__libc_memalign(size_t, size_t);
+
+/* The C library's own, until the next ones behind this library are known, which may be valgrind's. */
+static void *(*next_malloc)(size_t) = __libc_malloc;
+static void *(*next_calloc)(size_t, size_t) = __libc_calloc;
+static void *(*next_realloc)(void *, size_t) = __libc_realloc;
+static void *(*next_memalign)(size_t, size_t) = __libc_memalign;
 
 static atomic_long growths, reads, writes;
 static long growth_refused, read_refused, write_refused;
@@ -21,10 +34,17 @@ static long number(const char *name)
 
 __attribute__((constructor)) static void begin(void)
 {
+	const char *name = getenv("REFUSE_IN");
+	if (name && strcmp(program_invocation_short_name, name))
+		return;
+	next_malloc = (void *(*)(size_t))dlsym(RTLD_NEXT, "malloc");
+	next_calloc = (void *(*)(size_t, size_t))dlsym(RTLD_NEXT, "calloc");
+	next_realloc = (void *(*)(void *, size_t))dlsym(RTLD_NEXT, "realloc");
+	next_memalign = (void *(*)(size_t, size_t))dlsym(RTLD_NEXT, "memalign");
+	atomic_store(&growths, 0);
 	growth_refused = number("REFUSE_GROWTH");
 	read_refused = number("REFUSE_READ");
 	write_refused = number("REFUSE_WRITE");
-	atomic_store(&growths, 0);
 }
 
 static void tell_counts(void)
@@ -55,34 +75,29 @@ static int is_refused(void)
 	return 1;
 }
 
-extern void *__libc_malloc(size_t);
-extern void *__libc_calloc(size_t, size_t);
-extern void *__libc_realloc(void *, size_t);
-extern void *__libc_memalign(size_t, size_t);
-
 void *malloc(size_t size)
 {
-	return is_refused() ? NULL : __libc_malloc(size);
+	return is_refused() ? NULL : next_malloc(size);
 }
 
 void *calloc(size_t count, size_t size)
 {
-	return is_refused() ? NULL : __libc_calloc(count, size);
+	return is_refused() ? NULL : next_calloc(count, size);
 }
 
 void *realloc(void *old, size_t size)
 {
-	return is_refused() ? NULL : __libc_realloc(old, size);
+	return is_refused() ? NULL : next_realloc(old, size);
 }
 
 void *aligned_alloc(size_t alignment, size_t size)
 {
-	return is_refused() ? NULL : __libc_memalign(alignment, size);
+	return is_refused() ? NULL : next_memalign(alignment, size);
 }
 
 int posix_memalign(void **out, size_t alignment, size_t size)
 {
-	void *made = is_refused() ? NULL : __libc_memalign(alignment, size);
+	void *made = is_refused() ? NULL : next_memalign(alignment, size);
 	if (!made)
 		return ENOMEM;
 	*out = made;
