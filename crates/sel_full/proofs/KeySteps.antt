@@ -9,7 +9,7 @@ use Rattle.sel_items.specs.Follows.{NodeKey, key_of, Follows}
 use Rattle.sel_items.specs.KidSets.{kid_sets, AreKidsInOrder}
 use Rattle.sel_full.specs.Reach.{IsUsed, IsKeyOver, IsOneOf, AreOf}
 use Rattle.sel_full.specs.Tables.{kids_by}
-use Rattle.sel_full.specs.Taking.{IsReachedBy, AreStates, kid_at, key_at, MayTake}
+use Rattle.sel_full.specs.Taking.{IsReachedBy, AreStates, AreKidStates, kid_at, key_at, MayTake}
 use Rattle.sel_full.proofs.ListPlaces.{within_get}
 use Rattle.sel_full.proofs.Reaching.{reached_follow}
 use Rattle.sel_full.proofs.Uses.{by_first}
@@ -19,9 +19,9 @@ used_by normal op k h =
     let u = by_first normal.rules op k h in
     record { number = suc u.place; rule = u.rule; first = u.first; second = u.second; test = u.test; numbered = u.there; body = u.body; count = u.count }
 
-pub kid_set : (normal : NormalForm) (xs : List Items) (o : Option ℕ) (i : Items) → AreStates normal xs → kid_at xs o ≡ Some i → IsKidSet normal i
-kid_set normal xs None i are h = absurd (some_none (sym h))
-kid_set normal xs (Some n) i are h = are.sets i (n, h)
+pub kid_set : (normal : NormalForm) (xs : List Items) (o : Option ℕ) (i : Items) → AreKidStates normal xs → kid_at xs o ≡ Some i → IsKidSet normal i
+kid_set normal xs None i sets h = absurd (some_none (sym h))
+kid_set normal xs (Some n) i sets h = sets i (n, h)
 
 pub leaf_may : (normal : NormalForm) (xs : List Items) (op class : ℕ) → kids_by normal.rules op ≡ Some 0 → Occurs normal.tests class → MayTake normal xs op class None None
 leaf_may normal xs op class by occurs = record { by = by; over = record { used = used_by normal op 0 by; class = occurs; kids = tt }; order = tt }

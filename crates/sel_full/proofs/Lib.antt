@@ -4,6 +4,8 @@ pub mod Empties
 pub mod Examples
 pub mod Exclusion
 pub mod Finding
+pub mod Formed
+pub mod Judged
 pub mod Kept
 pub mod KeyLists
 pub mod KeyPlaces

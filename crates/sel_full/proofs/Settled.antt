@@ -1,7 +1,9 @@
 -- Where all keys were taken, the states are settled, and the table is complete.
-use Rattle.std.proofs.Common.{◌≡◌, ℕ, zero, suc, ◌<◌, ◌≤◌, ◌⊎◌, inl, inr, Option, Some, List, [], ◌∷◌, ◌++◌, refl, ap, sym, ◌∙◌, subst, slice_get, length, map, take, arith}
+use Rattle.std.proofs.Common.{◌≡◌, ℕ, zero, suc, ◌<◌, ◌≤◌, ◌⊎◌, inl, inr, Option, Some, None, List, [], ◌∷◌, ◌++◌, refl, ap, sym, ◌∙◌, subst, slice_get, length, map, take, arith}
 use Rattle.std.specs.List.{range_with_len}
-use Rattle.std.proofs.lemmas.Option.{slice_get_within}
+use Rattle.std.specs.Option.{option_map}
+use Rattle.std.proofs.lemmas.List.{length-map}
+use Rattle.std.proofs.lemmas.Option.{slice_get_within, slice_get-map}
 use Rattle.sel_grammar.specs.Limits.{most_operators}
 use Rattle.sel_normal.specs.NormalForms.{NormalForm}
 use Rattle.sel_normal.specs.Standing.{IsStanding}
@@ -15,7 +17,7 @@ use Rattle.sel_full.specs.Reach.{IsClassFor, IsOneOf, AreOf}
 use Rattle.sel_full.specs.Tables.{IsLawfulTable, kids_by, occurring, all_keys}
 use Rattle.sel_full.specs.Taking.{AreFound, TookTo}
 use Rattle.sel_full.proofs.KeyLists.{among_left, among_right, among_map, among_flat, among_range, among_classes, tables_are_closed}
-use Rattle.sel_full.proofs.ListPlaces.{get_taken}
+use Rattle.sel_full.proofs.ListPlaces.{get_taken, within_get}
 use Rattle.sel_full.proofs.Reaching.{reach_is_exact}
 use Rattle.sel_full.proofs.Uses.{few_by, used_below}
 
@@ -85,7 +87,7 @@ module _ (normal : NormalForm) (xs : List Items) (standing : IsStanding normal) 
       let (n, i, below, at, f) = (to.took).led p (key_of op class is) there in
       (i, (n, at), f)
 
-pub complete : (normal : NormalForm) (most rows : ℕ) (t : Table) → AreFound normal most rows t.states → TookTo normal t.states (length t.states) → AreNumbers normal t.states t.numbers (all_keys normal t.states) → IsCompleteTable normal most rows t
+pub complete : (normal : NormalForm) (most rows : ℕ) (t : Table) → AreFound normal most rows t.states → TookTo normal t.states (length t.states) → AreNumbers normal t.states (map Some t.numbers) (all_keys normal t.states) → IsCompleteTable normal most rows t
 complete normal most rows t found to numbers = record {
   lawful = lawful;
   reach = λ g form. (reach_is_exact g normal t.states found.empty.0 form found.empty.2 (0, found.empty.1) (tables_are_closed g normal t.states t.numbers form lawful)).1 (λ i m. (found.are).reached i m g form);
@@ -98,6 +100,12 @@ complete normal most rows t found to numbers = record {
       long = λ k i at. ((found.are).sets i (k, at)).long;
       empty = found.empty;
       differ = (found.are).differ;
-      as_many = numbers.as_many;
-      follow = λ n number key at at'. numbers.follow n number key at at';
+      as_many = sym (length-map t.numbers Some) ∙ numbers.as_many;
+      follow = λ n number key at at'. numbers.follow n (Some number) key at (slice_get-map Some t.numbers n ∙ ap (option_map Some) at');
     }
+
+-- no number is missing where the states are settled
+pub none_missing : (normal : NormalForm) (xs : List Items) (numbers : List (Option ℕ)) → AreNumbers normal xs numbers (all_keys normal xs) → IsSettled normal xs → IsOneOf numbers None → ⊥
+none_missing normal xs numbers are settled (p, at) =
+    let (key, there) = within_get (all_keys normal xs) p (subst (λ n. p < n) are.as_many (slice_get_within numbers p None at)) in
+    (are.follow p None key there at).unsettled settled

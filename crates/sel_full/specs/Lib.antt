@@ -1,6 +1,9 @@
 pub mod Automata
 pub mod Builds
 pub mod Finding
+pub mod FormLaws
+pub mod Forms
+pub mod Judging
 pub mod Laws
 pub mod Numbering
 pub mod Reach

@@ -18,11 +18,15 @@ use Rattle.sel_full.specs.Tables.{AllDiffer, kids_by, all_keys}
 abbrev pub IsReachedBy : NormalForm → Items → Type 0
 IsReachedBy normal i = (g : Grammar) → IsAcceptedForm g normal → IsReached g normal i
 
+-- each is one that a parent's may be evaluated from
+abbrev pub AreKidStates : NormalForm → List Items → Type 0
+AreKidStates normal states = (i : Items) → IsOneOf states i → IsKidSet normal i
+
 -- Item sets that may be states: they differ, are reached, and are cheap enough to be kids.
 pub record AreStates (normal : NormalForm) (states : List Items) : Type 0 where
   pub differ : AllDiffer states
   pub reached : (i : Items) → IsOneOf states i → IsReachedBy normal i
-  pub sets : (i : Items) → IsOneOf states i → IsKidSet normal i
+  pub sets : AreKidStates normal states
   pub cheap : (i : Items) → IsOneOf states i → HasDearEntry i → ⊥
 
 -- as many states and keys as allowed

@@ -1,9 +1,9 @@
 // Complete tables built.
-ghost use Rattle.std.specs.Prelude.{◌≡◌, ◌<◌, ◌≤◌, List, take, length, IfOk, IfErr};
+ghost use Rattle.std.specs.Prelude.{◌≡◌, ◌<◌, ◌≤◌, Some, None, List, take, length, map, MatchOption, IfOk, IfErr};
 ghost use Rattle.sel_full.specs.Builds.{IsBuild, IsCompleteTable, most_states, most_keys};
+ghost use Rattle.sel_full.specs.Reach.{IsOneOf};
 ghost use Rattle.sel_full.specs.Taking.{AreFound, TookTo, IsStopFor};
 
-use crate::gap::Gap;
 use crate::keeping::{Limits, first_states};
 use crate::numbering::number_all;
 use crate::states::States;
@@ -27,7 +27,7 @@ fn find_states(alloc: Global, normal: &Normal, limits: Limits) -> Result<States,
     Ok(states)
 }
 
-fn copy(alloc: Global, items: &Items) -> Result<Items, NoMemory>
+pub fn copy(alloc: Global, items: &Items) -> Result<Items, NoMemory>
     ensures { IfOk result (λ copy. copy ≡ items.now) }
 {
     let mut entries = Vec::new(alloc);
@@ -48,6 +48,20 @@ fn list_of(alloc: Global, states: &States) -> Result<List<Items>, NoMemory>
     Ok(list)
 }
 
+/// The numbers, where none of them is missing.
+fn all_there(alloc: Global, found: &[Option<u16>]) -> Result<Option<List<u16>>, NoMemory>
+    ensures { IfOk result (λ there. MatchOption there (IsOneOf found.now None) (λ numbers. map Some numbers ≡ found.now)) }
+{
+    let mut numbers = List::new(alloc);
+    for number in found {
+        match *number {
+            Some(number) => numbers.push(number)?,
+            None => return Ok(None),
+        }
+    }
+    Ok(Some(numbers))
+}
+
 /// What a build answers where these states were found.
 fn complete(
     alloc: Global,
@@ -62,13 +76,13 @@ fn complete(
 {
     normal.is_standing();
     let list = list_of(alloc, states)?;
-    match number_all(alloc, normal, states) {
-        Ok(numbers) => Ok(Build::Complete(Table {
+    let found = number_all(alloc, normal, states)?;
+    match all_there(alloc, found.as_slice())? {
+        Some(numbers) => Ok(Build::Complete(Table {
             states: list,
             numbers,
         })),
-        Err(Gap::Missing) => Ok(Build::TooLarge),
-        Err(Gap::NoMemory) => Err(NoMemory),
+        None => Ok(Build::TooLarge),
     }
 }
 

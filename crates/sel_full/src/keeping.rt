@@ -53,7 +53,7 @@ fn has_dear_entry(items: &Items) -> bool
 }
 
 /// How many keys there are over so many states.
-fn key_count(normal: &Normal, states: usize) -> usize
+pub fn key_count(normal: &Normal, states: usize) -> usize
     requires few { states ≤ 65536 }
     ensures { (xs : List Items) → length xs ≡ states → length (all_keys normal.now xs) ≡ result }
 {

@@ -1,5 +1,6 @@
 //! Laws of complete tables. The functions do nothing: their contracts say them.
 ghost use Rattle.sel_full.specs.Builds.{CompleteIsNotTooLarge};
+ghost use Rattle.sel_full.specs.FormLaws.{CompleteHasForm, TableFaultIsOne, LawfulHasNoFault};
 ghost use Rattle.sel_full.specs.Laws.{ReachedFollow, ReachIsExact, TablesAreClosed, TablesHoldTrees, KeysHavePlaces, UnusedAreEmpty, StateKeysFollow, TreesAreReady};
 
 /// What follows from a key over reached item sets is reached.
@@ -44,4 +45,15 @@ pub fn trees_are_ready()
 /// definition says so.
 pub fn complete_is_not_too_large()
     ensures { CompleteIsNotTooLarge }
+{}
+
+/// A complete table has the form that the text of a table has: so its text may be loaded.
+pub fn complete_has_form()
+    ensures { CompleteHasForm }
+{}
+
+/// Of a table at most one thing is wrong first, and nothing is wrong with a lawful one.
+pub fn table_faults_are_one()
+    ensures one { TableFaultIsOne }
+    ensures lawful { LawfulHasNoFault }
 {}

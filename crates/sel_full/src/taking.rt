@@ -9,7 +9,7 @@ ghost use Rattle.sel_items.specs.Labels.{IsClassOver};
 ghost use Rattle.sel_full.specs.Builds.{most_states};
 ghost use Rattle.sel_full.specs.Finding.{leaf_keys, kid_keys, leaf_keys_below, kid_keys_below, keys_up_to, build_keys};
 ghost use Rattle.sel_full.specs.Tables.{kids_by, occurring};
-ghost use Rattle.sel_full.specs.Taking.{AreStates, AreFound, kid_at, key_at, MayTake, Took, TookTo, IsStopFor};
+ghost use Rattle.sel_full.specs.Taking.{AreKidStates, AreFound, kid_at, key_at, MayTake, Took, TookTo, IsStopFor};
 
 use crate::keeping::{Limits, keep};
 use crate::places::{class_at, class_count, kids_by};
@@ -65,7 +65,7 @@ pub fn follow(
     first: Option<u16>,
     second: Option<u16>,
 ) -> Result<Items, NoMemory>
-    requires are { AreStates normal.now states.now }
+    requires sets { AreKidStates normal.now states.now }
     requires may { MayTake normal.now states.now operator class first second }
     ensures { IfOk result (λ items. Follows normal.now (key_at states.now operator class first second) items) }
 {

@@ -12,7 +12,7 @@ loop-place-init c = more_none c.args.normal.now c.args.states.now c.args.numbers
 
 pub loop-place-preserved : goal.loop-place-preserved
 loop-place-preserved c =
-    class_more c.args.normal.now c.args.states.now c.args.numbers.now c.loop-place.numbers c.number_key.new.numbers c.args.operator c.loop-place.place c.class_at-class.result _ c.classes-in-loop-place.ensures c.class_at-class.ensures.is c.loop-place.invariant c.in_ok-number_key.ensures.numbers
+    class_more c.args.normal.now c.args.states.now c.args.numbers.now c.loop-place.numbers c.number_key.new.numbers c.args.operator c.loop-place.place c.class_at-class.result _ c.classes-in-loop-place.ensures c.class_at-class.ensures.is c.loop-place.invariant c.in_ok-number_key.ensures
 
-pub returns-clause-numbers : goal.returns-clause-numbers
-returns-clause-numbers c = class_whole c.args.normal.now c.args.states.now c.args.numbers.now c.loop-place.numbers c.args.operator c.loop-place.place _ c.classes.ensures (subst (λ n. n ≤ c.loop-place.place) c.class_count-place-end.ensures.is c.loop-place-test.false) c.loop-place.invariant
+pub returns : goal.returns
+returns c = class_whole c.args.normal.now c.args.states.now c.args.numbers.now c.loop-place.numbers c.args.operator c.loop-place.place _ c.classes.ensures (subst (λ n. n ≤ c.loop-place.place) c.class_count-place-end.ensures.is c.loop-place-test.false) c.loop-place.invariant

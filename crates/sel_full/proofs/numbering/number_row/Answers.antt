@@ -16,10 +16,10 @@ pub loop-right-preserved : goal.loop-right-preserved
 loop-right-preserved c =
     let h = c.loop-right-test.true in
     let e = c.len-right-end.ensures in
-    row_more c.args.normal.now c.args.states.now c.args.operator c.args.left c.args.numbers.now c.loop-right.numbers c.number_key.new.numbers c.loop-right.right (omega arith) c.loop-right.invariant c.in_ok-number_key.ensures.numbers
+    row_more c.args.normal.now c.args.states.now c.args.operator c.args.left c.args.numbers.now c.loop-right.numbers c.number_key.new.numbers c.loop-right.right (omega arith) c.loop-right.invariant c.in_ok-number_key.ensures
 
-pub returns-clause-numbers : goal.returns-clause-numbers
-returns-clause-numbers c =
+pub returns : goal.returns
+returns c =
     let h = c.loop-right-test.false in
     let e = c.len-right-end.ensures in
     row_whole c.args.normal.now c.args.states.now c.args.operator c.args.left c.args.numbers.now c.loop-right.numbers c.loop-right.right (omega arith) c.loop-right.invariant

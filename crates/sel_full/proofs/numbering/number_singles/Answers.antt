@@ -13,10 +13,10 @@ pub loop-kid-preserved : goal.loop-kid-preserved
 loop-kid-preserved c =
     let h = c.loop-kid-test.true in
     let e = c.len-kid-end.ensures in
-    single_more c.args.normal.now c.args.states.now c.args.numbers.now c.loop-kid.numbers c.number_key.new.numbers c.args.operator c.loop-kid.kid (omega arith) c.loop-kid.invariant c.in_ok-number_key.ensures.numbers
+    single_more c.args.normal.now c.args.states.now c.args.numbers.now c.loop-kid.numbers c.number_key.new.numbers c.args.operator c.loop-kid.kid (omega arith) c.loop-kid.invariant c.in_ok-number_key.ensures
 
-pub returns-clause-numbers : goal.returns-clause-numbers
-returns-clause-numbers c =
+pub returns : goal.returns
+returns c =
     let h = c.loop-kid-test.false in
     let e = c.len-kid-end.ensures in
     more_whole c.args.normal.now c.args.states.now c.args.numbers.now c.loop-kid.numbers _ c.args.states.now c.loop-kid.kid (omega arith) c.loop-kid.invariant

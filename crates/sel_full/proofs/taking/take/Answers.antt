@@ -11,3 +11,6 @@ keep-requires-clause-reached c =
 pub returns-clause-took : goal.returns-clause-took
 returns-clause-took c =
     on_ok _ _ c.keep.result (took_one c.args.normal.now c.args.states.now c.keep.new.states (key_at c.args.states.now c.args.operator c.args.class c.args.first c.args.second) c.in_ok-items.items c.in_ok-items.ensures) c.keep.ensures.kept
+
+pub follow-requires-clause-sets : goal.follow-requires-clause-sets
+follow-requires-clause-sets c = ((c.requires.found).are).sets

@@ -1,0 +1,11 @@
+pub mod Cutting
+pub mod Decimals
+pub mod Signs
+pub mod Pairs
+pub mod Spelling
+pub mod Items
+pub mod Taking
+pub mod Forming
+pub mod Heads
+pub mod Reading
+pub mod OneTable
