@@ -22,6 +22,13 @@ pub struct Accepted {
     pub normal: Normal,
 }
 
+/// An accepted grammar, and a forest under it.
+#[derive(Drop)]
+pub struct Subject {
+    pub accepted: Accepted,
+    pub forest: Forest,
+}
+
 /// The text of the row's file of this name.
 pub fn text_of<'r>(row: &'r Row<'_>, name: &str) -> Result<&'r [u8], Stop> {
     row.file(name).ok_or(Stop::Unfit("the row lacks a file"))
@@ -37,13 +44,19 @@ pub fn grammar_of(alloc: Global, text: &[u8]) -> Result<Grammar, Stop>
     Ok(read_grammar(alloc, text)?)
 }
 
+fn accepted_of(alloc: Global, text: &[u8]) -> Result<Accepted, Stop>
+    ensures { IfOk result (λ accepted. IsAcceptedForm accepted.grammar accepted.normal) }
+{
+    let grammar = grammar_of(alloc, text)?;
+    let normal = Normal::of(alloc, &grammar)?;
+    Ok(Accepted { grammar, normal })
+}
+
 /// The grammar of the row's file `g`, with its normal form.
 pub fn accept(alloc: Global, row: &Row<'_>) -> Result<Accepted, Stop>
     ensures { IfOk result (λ accepted. IsAcceptedForm accepted.grammar accepted.normal) }
 {
-    let grammar = grammar_of(alloc, text_of(row, "g")?)?;
-    let normal = Normal::of(alloc, &grammar)?;
-    Ok(Accepted { grammar, normal })
+    accepted_of(alloc, text_of(row, "g")?)
 }
 
 /// The forest that the text spells.
@@ -63,4 +76,14 @@ pub fn forest_of(alloc: Global, grammar: &Grammar, row: &Row<'_>) -> Result<Fore
     ensures { IfOk result (λ forest. IsValidForest grammar.now forest) }
 {
     forest_in(alloc, grammar, text_of(row, "f")?)
+}
+
+/// The grammar and the forest of the row's files `g` and `f`.
+pub fn subject_of(alloc: Global, row: &Row<'_>) -> Result<Subject, Stop>
+    ensures form { IfOk result (λ subject. IsAcceptedForm subject.accepted.grammar subject.accepted.normal) }
+    ensures valid { IfOk result (λ subject. IsValidForest subject.accepted.grammar subject.forest) }
+{
+    let accepted = accept(alloc, row)?;
+    let forest = forest_of(alloc, &accepted.grammar, row)?;
+    Ok(Subject { accepted, forest })
 }

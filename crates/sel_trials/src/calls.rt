@@ -18,23 +18,35 @@ use std::thread::Threads;
 #[derive(Clone, Copy)]
 pub struct Trials;
 
-fn text_called(alloc: Global, row: &Row<'_>) -> Result<String, Stop> {
+fn other_called(alloc: Global, row: &Row<'_>) -> Result<String, Stop> {
     match row.call {
-        "grammar" => grammar(alloc, row),
-        "forest" => forest(alloc, row),
-        "nodes" => nodes(alloc, row),
-        "check" => check(alloc, row),
-        "normal" => normal(alloc, row),
-        "class" => class(alloc, row),
-        "items" => labels(alloc, row, Told::Items),
-        "states" => labels(alloc, row, Told::States),
-        "labels" => labels(alloc, row, Told::All),
         "pack" => packed(alloc, row),
         "fits" => fit(alloc, row),
         "back" => back(alloc, row),
         "shipped" => shipped(alloc, row),
         "compare" => compare(alloc, row),
         _ => Err(Stop::Unfit("there is no such call")),
+    }
+}
+
+fn labels_called(alloc: Global, row: &Row<'_>) -> Result<String, Stop> {
+    match row.call {
+        "normal" => normal(alloc, row),
+        "class" => class(alloc, row),
+        "items" => labels(alloc, row, Told::Items),
+        "states" => labels(alloc, row, Told::States),
+        "labels" => labels(alloc, row, Told::All),
+        _ => other_called(alloc, row),
+    }
+}
+
+fn text_called(alloc: Global, row: &Row<'_>) -> Result<String, Stop> {
+    match row.call {
+        "grammar" => grammar(alloc, row),
+        "forest" => forest(alloc, row),
+        "nodes" => nodes(alloc, row),
+        "check" => check(alloc, row),
+        _ => labels_called(alloc, row),
     }
 }
 

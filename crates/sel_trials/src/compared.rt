@@ -1,16 +1,16 @@
 // Trees made by chance have the same cover by labels as by plain dynamic programming: the same cost, the
 // same list, or both none.
 ghost use Rattle.std.specs.Prelude.{◌≡◌, ◌<◌, ◌≤◌};
-ghost use Rattle.sel_forest.specs.Valid.{IsValidForest};
+ghost use Rattle.sel_forest.specs.Valid.{IsValidForest, IsValidTree};
 ghost use Rattle.sel_items.specs.Laws.{IsAcceptedForm};
 
 use crate::accepted::{Accepted, accept, forest_in, text_of};
-use crate::covers::{are_same, by_costs, by_labels};
+use crate::covers::{by_labels, is_by_costs};
 use crate::making::{Material, made_trees};
 use crate::stop::Stop;
 use sel_auto::PrivateAutomaton;
 use sel_base::Steps;
-use sel_forest::Forest;
+use sel_forest::{Forest, Tree};
 use sel_sheet::Row;
 use std::alloc::Global;
 use std::marker::Brand;
@@ -23,12 +23,33 @@ const TREES: u32 = 400;
 const ENOUGH: usize = 80;
 
 // How many trees have a cover and how many have none, and what the automaton tells behind them.
-#[derive(Clone, Copy, Debug, PartialEq, Eq)]
+#[derive(Clone, Copy, PartialEq)]
 struct Outcome {
     covered: usize,
     uncovered: usize,
     used_up: bool,
     row_full: bool,
+}
+
+// Compares the covers of the tree, and says whether it has one.
+fn has_cover<L: Ledger>(
+    alloc: Global,
+    accepted: &Accepted,
+    tree: &Tree,
+    automaton: &mut PrivateAutomaton,
+    steps: &mut Steps<L>,
+) -> Result<bool, Stop>
+    requires normal { automaton.old.normal ≡ accepted.now.normal }
+    requires form { IsAcceptedForm accepted.now.grammar accepted.now.normal }
+    requires tree { IsValidTree accepted.now.grammar tree.now }
+    ensures normal { automaton.new.normal ≡ automaton.old.normal }
+{
+    let cover = by_labels(automaton, alloc, accepted, tree, steps)?;
+    if is_by_costs(alloc, accepted, tree, &cover)? {
+        Ok(cover.is_some())
+    } else {
+        Err(Stop::Unfit("a tree has another cover by labels"))
+    }
 }
 
 // Compares the covers of each tree, all by one automaton.
@@ -45,12 +66,8 @@ fn compare_each<L: Ledger>(
 {
     let mut covered: usize = 0;
     'trees: for tree in forest.trees.as_slice() {
-        let cover = by_labels(automaton, alloc, accepted, tree, steps)?;
-        let wanted = by_costs(alloc, accepted, tree)?;
-        if !are_same(&cover, &wanted) {
-            return Err(Stop::Unfit("a tree has another cover by labels"));
-        }
-        covered = covered.saturating_add(cover.is_some() as usize);
+        let is_covered = has_cover(alloc, accepted, tree, automaton, steps)?;
+        covered = covered.saturating_add(is_covered as usize);
     }
     Ok(Outcome {
         covered,
@@ -98,77 +115,133 @@ fn compare_in(
     compare_counted::<Brand>(Blank::new(1), alloc, accepted, forest, states, rows)
 }
 
+// Enough trees have a cover, enough have none, and there was ample room.
+fn is_ample(ample: Outcome) -> Result<(), Stop> {
+    if ample.covered < ENOUGH || ample.uncovered < ENOUGH {
+        Err(Stop::Unfit("few trees have a cover, or few have none"))
+    } else if ample.used_up || ample.row_full {
+        Err(Stop::Unfit("there was a mark"))
+    } else {
+        Ok(())
+    }
+}
+
+fn is_wanted(outcome: Outcome, wanted: Outcome, why: &'static str) -> Result<(), Stop> {
+    if outcome == wanted {
+        Ok(())
+    } else {
+        Err(Stop::Unfit(why))
+    }
+}
+
+// With few keys.
+fn compare_few_keys(
+    alloc: Global,
+    accepted: &Accepted,
+    forest: &Forest,
+    ample: Outcome,
+) -> Result<(), Stop>
+    requires form { IsAcceptedForm accepted.now.grammar accepted.now.normal }
+    requires valid { IsValidForest accepted.now.grammar forest.now }
+{
+    let few_keys = compare_in(alloc, accepted, forest, 32_768, 2)?;
+    let wanted = Outcome {
+        row_full: true,
+        ..ample
+    };
+    is_wanted(few_keys, wanted, "few keys change an answer")
+}
+
+// With few states.
+fn compare_few_states(
+    alloc: Global,
+    accepted: &Accepted,
+    forest: &Forest,
+    ample: Outcome,
+) -> Result<(), Stop>
+    requires form { IsAcceptedForm accepted.now.grammar accepted.now.normal }
+    requires valid { IsValidForest accepted.now.grammar forest.now }
+{
+    let few_states = compare_in(alloc, accepted, forest, 2, 2)?;
+    if few_states.covered == ample.covered && few_states.used_up {
+        Ok(())
+    } else {
+        Err(Stop::Unfit("few states change an answer"))
+    }
+}
+
+// With no room.
+fn compare_no_room(
+    alloc: Global,
+    accepted: &Accepted,
+    forest: &Forest,
+    ample: Outcome,
+) -> Result<(), Stop>
+    requires form { IsAcceptedForm accepted.now.grammar accepted.now.normal }
+    requires valid { IsValidForest accepted.now.grammar forest.now }
+{
+    let no_room = compare_in(alloc, accepted, forest, 0, 0)?;
+    let wanted = Outcome {
+        used_up: true,
+        ..ample
+    };
+    is_wanted(no_room, wanted, "no room changes an answer")
+}
+
 // Compares the covers with ample room, with few keys, with few states and with no room, and says what isn't so.
 fn compare_all(alloc: Global, accepted: &Accepted, forest: &Forest) -> Result<(), Stop>
     requires form { IsAcceptedForm accepted.now.grammar accepted.now.normal }
     requires valid { IsValidForest accepted.now.grammar forest.now }
 {
     let ample = compare_in(alloc, accepted, forest, 32_768, 1_048_576)?;
-    if ample.covered < ENOUGH || ample.uncovered < ENOUGH {
-        return Err(Stop::Unfit("few trees have a cover, or few have none"));
-    }
-    if ample.used_up || ample.row_full {
-        return Err(Stop::Unfit("there was a mark"));
-    }
-    let few_keys = compare_in(alloc, accepted, forest, 32_768, 2)?;
-    if few_keys
-        != (Outcome {
-            row_full: true,
-            ..ample
-        })
-    {
-        return Err(Stop::Unfit("few keys change an answer"));
-    }
-    let few_states = compare_in(alloc, accepted, forest, 2, 2)?;
-    if few_states.covered != ample.covered || !few_states.used_up {
-        return Err(Stop::Unfit("few states change an answer"));
-    }
-    let no_room = compare_in(alloc, accepted, forest, 0, 0)?;
-    if no_room
-        != (Outcome {
-            used_up: true,
-            ..ample
-        })
-    {
-        return Err(Stop::Unfit("no room changes an answer"));
-    }
-    Ok(())
+    is_ample(ample)?;
+    compare_few_keys(alloc, accepted, forest, ample)?;
+    compare_few_states(alloc, accepted, forest, ample)?;
+    compare_no_room(alloc, accepted, forest, ample)
 }
 
-// The words of the row's file, with a blank between two. `''` is the empty word.
-fn names_in<'r>(alloc: Global, row: &'r Row<'_>, name: &str) -> Result<Vec<&'r str>, Stop> {
-    let Ok(line) = std::str::from_utf8(text_of(row, name)?) else {
-        return Err(Stop::Unfit("no text"));
-    };
-    let mut names = Vec::new(alloc);
-    for word in line.split(' ') {
-        names.push(if word == "''" { "" } else { word })?;
+// The line that is the row's file.
+fn line_of<'r>(row: &'r Row<'_>, name: &str) -> Result<&'r str, Stop> {
+    match std::str::from_utf8(text_of(row, name)?) {
+        Ok(line) => Ok(line),
+        Err(_) => Err(Stop::Unfit("no text")),
     }
-    Ok(names)
 }
 
 fn trees_of(alloc: Global, row: &Row<'_>, seed: u64) -> Result<Vec<u8>, Stop> {
-    let leaves = names_in(alloc, row, "leaves")?;
-    let unary = names_in(alloc, row, "unary")?;
-    let binary = names_in(alloc, row, "binary")?;
-    let attributes = names_in(alloc, row, "attributes")?;
+    let leaves = line_of(row, "leaves")?;
+    let unary = line_of(row, "unary")?;
+    let binary = line_of(row, "binary")?;
+    let attributes = line_of(row, "attributes")?;
     let material = Material {
-        leaves: leaves.as_slice(),
-        unary: unary.as_slice(),
-        binary: binary.as_slice(),
-        attributes: attributes.as_slice(),
+        leaves,
+        unary,
+        binary,
+        attributes,
     };
     Ok(made_trees(alloc, seed, &material, TREES)?)
+}
+
+// Makes trees of the row's operators, and compares their covers.
+fn compare_made(
+    alloc: Global,
+    row: &Row<'_>,
+    accepted: &Accepted,
+    seed: u64,
+) -> Result<String, Stop>
+    requires form { IsAcceptedForm accepted.now.grammar accepted.now.normal }
+{
+    let text = trees_of(alloc, row, seed)?;
+    let forest = forest_in(alloc, &accepted.grammar, text.as_slice())?;
+    compare_all(alloc, accepted, &forest)?;
+    Ok(format!(in alloc; "{} trees, covered in the same way\n", forest.trees.len())?)
 }
 
 /// Makes trees of the row's operators by its word, a seed, and compares their covers.
 pub fn compare(alloc: Global, row: &Row<'_>) -> Result<String, Stop> {
     let accepted = accept(alloc, row)?;
-    let Ok(seed) = row.words.parse::<u64>() else {
-        return Err(Stop::Unfit("no seed"));
-    };
-    let text = trees_of(alloc, row, seed)?;
-    let forest = forest_in(alloc, &accepted.grammar, text.as_slice())?;
-    compare_all(alloc, &accepted, &forest)?;
-    Ok(format!(in alloc; "{} trees, covered in the same way\n", forest.trees.len())?)
+    match row.words.parse::<u64>() {
+        Ok(seed) => compare_made(alloc, row, &accepted, seed),
+        Err(_) => Err(Stop::Unfit("no seed")),
+    }
 }

@@ -35,8 +35,8 @@ pub fn by_labels<A: Automaton, L: Ledger>(
     reduce(automaton, alloc, grammar, normal, tree, &labels)
 }
 
-/// The best cover of a tree, without an automaton.
-pub fn by_costs(alloc: Global, accepted: &Accepted, tree: &Tree) -> Result<Option<Cover>, NoMemory>
+// The best cover of a tree, without an automaton.
+fn by_costs(alloc: Global, accepted: &Accepted, tree: &Tree) -> Result<Option<Cover>, NoMemory>
     requires form { IsAcceptedForm accepted.now.grammar accepted.now.normal }
     requires tree { IsValidTree accepted.now.grammar tree.now }
     ensures answer { IfOk result (λ answer. (t : PlainTree) → IsPostorderOf tree.now t → IsAnswer accepted.now.grammar t answer) }
@@ -44,8 +44,8 @@ pub fn by_costs(alloc: Global, accepted: &Accepted, tree: &Tree) -> Result<Optio
     least(alloc, &accepted.grammar, tree)
 }
 
-/// Whether both are none, or have the same cost and the same list.
-pub fn are_same(one: &Option<Cover>, other: &Option<Cover>) -> bool {
+// Whether both are none, or have the same cost and the same list.
+fn are_same(one: &Option<Cover>, other: &Option<Cover>) -> bool {
     match (one, other) {
         (None, None) => true,
         (Some(one), Some(other)) => {
@@ -53,4 +53,18 @@ pub fn are_same(one: &Option<Cover>, other: &Option<Cover>) -> bool {
         }
         _ => false,
     }
+}
+
+/// Whether the cover is the best one without an automaton.
+pub fn is_by_costs(
+    alloc: Global,
+    accepted: &Accepted,
+    tree: &Tree,
+    cover: &Option<Cover>,
+) -> Result<bool, NoMemory>
+    requires form { IsAcceptedForm accepted.now.grammar accepted.now.normal }
+    requires tree { IsValidTree accepted.now.grammar tree.now }
+{
+    let wanted = by_costs(alloc, accepted, tree)?;
+    Ok(are_same(cover, &wanted))
 }

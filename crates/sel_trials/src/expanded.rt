@@ -1,8 +1,9 @@
 // Texts of covers.
 ghost use Rattle.sel_forest.specs.Postorder.{IsTree};
 ghost use Rattle.sel_forest.specs.Valid.{IsValidForest};
+ghost use Rattle.sel_expand.specs.Expanding.{IsCovered};
 
-use crate::accepted::{accept, forest_of, text_of};
+use crate::accepted::{Subject, subject_of, text_of};
 use crate::checked::rules_of;
 use crate::stop::Stop;
 use sel_base::{List, NoMemory};
@@ -28,7 +29,42 @@ fn put_expansion(text: &mut Vec<u8>, expansion: &Expansion) -> Result<(), NoMemo
     Ok(())
 }
 
-// The text of the list's derivation of the tree. `expand` and the expander give the same.
+// `expand` gives the same.
+fn is_alone(
+    alloc: Global,
+    grammar: &Grammar,
+    tree: &Tree,
+    cover: &Cover,
+    expansion: &Expansion,
+) -> Result<bool, NoMemory>
+    requires tree { IsTree tree.now }
+    requires covered { IsCovered grammar.now tree.now cover.now.rules }
+{
+    let alone = expand(alloc, grammar, tree, cover)?;
+    Ok(are_same(expansion, &alone))
+}
+
+// The text of the cover. `expand` and the expander give the same.
+fn put_cover(
+    alloc: Global,
+    expander: &mut Expander,
+    grammar: &Grammar,
+    tree: &Tree,
+    cover: &Cover,
+    text: &mut Vec<u8>,
+) -> Result<(), Stop>
+    requires tree { IsTree tree.now }
+    requires covered { IsCovered grammar.now tree.now cover.now.rules }
+{
+    let expansion = expander.expand(alloc, grammar, tree, cover)?;
+    if is_alone(alloc, grammar, tree, cover, &expansion)? {
+        Ok(put_expansion(text, &expansion)?)
+    } else {
+        Err(Stop::Unfit("an expander that was used gives another text"))
+    }
+}
+
+// The text of the list's derivation of the tree.
 fn put_text(
     alloc: Global,
     expander: &mut Expander,
@@ -43,16 +79,32 @@ fn put_text(
         return Err(Stop::Unfit("too many rules"));
     }
     let rules = List::from_vec(rules);
-    let Some(cost) = check_cover(alloc, grammar, tree, rules.as_slice())? else {
-        return Err(Stop::Unfit("the list is no derivation's"));
-    };
-    let cover = Cover { cost, rules };
-    let expansion = expander.expand(alloc, grammar, tree, &cover)?;
-    let alone = expand(alloc, grammar, tree, &cover)?;
-    if !are_same(&expansion, &alone) {
-        return Err(Stop::Unfit("an expander that was used gives another text"));
+    match check_cover(alloc, grammar, tree, rules.as_slice())? {
+        Some(cost) => put_cover(alloc, expander, grammar, tree, &Cover { cost, rules }, text),
+        None => Err(Stop::Unfit("the list is no derivation's")),
     }
-    Ok(put_expansion(text, &expansion)?)
+}
+
+// The text of the line's derivation of the tree.
+fn put_line(
+    alloc: Global,
+    expander: &mut Expander,
+    grammar: &Grammar,
+    tree: &Tree,
+    line: &str,
+    text: &mut Vec<u8>,
+) -> Result<(), Stop>
+    requires tree { IsTree tree.now }
+{
+    let rules = rules_of(alloc, line)?;
+    put_text(alloc, expander, grammar, tree, rules, text)
+}
+
+fn put_bar(at: usize, text: &mut Vec<u8>) -> Result<(), NoMemory> {
+    if at > 0 {
+        text.extend_from_slice(b"---\n")?;
+    }
+    Ok(())
 }
 
 // The lists' derivations of the trees, with a line `---` between two.
@@ -71,23 +123,32 @@ fn put_texts(
         let Some(tree) = forest.trees.get(at) else {
             return Ok(());
         };
-        if at > 0 {
-            text.extend_from_slice(b"---\n")?;
-        }
-        let rules = rules_of(alloc, line)?;
-        put_text(alloc, &mut expander, grammar, tree, rules, text)?;
+        put_bar(at, text)?;
+        put_line(alloc, &mut expander, grammar, tree, line, text)?;
     }
     Ok(())
 }
 
+fn texts(alloc: Global, subject: &Subject, lines: &str) -> Result<Vec<u8>, Stop>
+    requires valid { IsValidForest subject.now.accepted.grammar subject.now.forest }
+{
+    let mut text = Vec::new(alloc);
+    put_texts(
+        alloc,
+        &subject.accepted.grammar,
+        &subject.forest,
+        lines,
+        &mut text,
+    )?;
+    Ok(text)
+}
+
 /// The texts of the derivations that have the lists of the row's file `rules`, a line for each tree.
 pub fn expand_all(alloc: Global, row: &Row<'_>) -> Result<Vec<u8>, Stop> {
-    let accepted = accept(alloc, row)?;
-    let forest = forest_of(alloc, &accepted.grammar, row)?;
-    let Ok(lines) = std::str::from_utf8(text_of(row, "rules")?) else {
-        return Err(Stop::Unfit("the rules are no text"));
-    };
-    let mut text = Vec::new(alloc);
-    put_texts(alloc, &accepted.grammar, &forest, lines, &mut text)?;
-    Ok(text)
+    let rules = text_of(row, "rules")?;
+    let subject = subject_of(alloc, row)?;
+    match std::str::from_utf8(rules) {
+        Ok(lines) => texts(alloc, &subject, lines),
+        Err(_) => Err(Stop::Unfit("the rules are no text")),
+    }
 }

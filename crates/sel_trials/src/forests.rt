@@ -1,9 +1,13 @@
 // Forests that are read, and forests in print.
-use crate::accepted::{accept, forest_of, text_of};
+ghost use Rattle.sel_grammar.specs.Lawful.{IsLawful};
+ghost use Rattle.sel_forest.specs.Valid.{IsValidForest};
+ghost use Rattle.sel_items.specs.Laws.{IsAcceptedForm};
+
+use crate::accepted::{Subject, subject_of, text_of};
 use crate::stop::Stop;
 use sel_base::NoMemory;
-use sel_forest::{Forest, Node, print_forest, reprint_forest};
-use sel_grammar::Attribute;
+use sel_forest::{Forest, Node, Tree, print_forest, reprint_forest};
+use sel_grammar::{Attribute, Grammar};
 use sel_sheet::Row;
 use std::alloc::Global;
 use std::fmt::Write;
@@ -21,10 +25,9 @@ fn count_of_nodes(forest: &Forest) -> usize {
 
 /// How many trees and nodes the row's forest has.
 pub fn forest(alloc: Global, row: &Row<'_>) -> Result<String, Stop> {
-    let accepted = accept(alloc, row)?;
-    let forest = forest_of(alloc, &accepted.grammar, row)?;
-    let trees = forest.trees.len();
-    let nodes = count_of_nodes(&forest);
+    let subject = subject_of(alloc, row)?;
+    let trees = subject.forest.trees.len();
+    let nodes = count_of_nodes(&subject.forest);
     Ok(format!(in alloc; "{trees} trees of {nodes} nodes\n")?)
 }
 
@@ -51,32 +54,69 @@ fn put_node(text: &mut String, node: &Node) -> Result<(), NoMemory> {
     Ok(())
 }
 
-/// A line for each node of the row's forest: operator, count of kids, places of the kids, attribute.
-pub fn nodes(alloc: Global, row: &Row<'_>) -> Result<String, Stop> {
-    let accepted = accept(alloc, row)?;
-    let forest = forest_of(alloc, &accepted.grammar, row)?;
-    let mut text = String::new(alloc);
-    for tree in forest.trees.as_slice() {
-        for node in tree.nodes.as_slice() {
-            put_node(&mut text, node)?;
-        }
+fn put_tree(text: &mut String, tree: &Tree) -> Result<(), NoMemory> {
+    for node in tree.nodes.as_slice() {
+        put_node(text, node)?;
     }
+    Ok(())
+}
+
+fn put_forest(text: &mut String, forest: &Forest) -> Result<(), NoMemory> {
+    for tree in forest.trees.as_slice() {
+        put_tree(text, tree)?;
+    }
+    Ok(())
+}
+
+fn shown(alloc: Global, forest: &Forest) -> Result<String, NoMemory> {
+    let mut text = String::new(alloc);
+    put_forest(&mut text, forest)?;
     Ok(text)
 }
 
-/// The row's forest in print, made of the text. Of the forest the same is made.
-pub fn reprint(alloc: Global, row: &Row<'_>) -> Result<Vec<u8>, Stop> {
-    let accepted = accept(alloc, row)?;
-    let forest = forest_of(alloc, &accepted.grammar, row)?;
-    let text = text_of(row, "f")?;
+/// A line for each node of the row's forest: operator, count of kids, places of the kids, attribute.
+pub fn nodes(alloc: Global, row: &Row<'_>) -> Result<String, Stop> {
+    let subject = subject_of(alloc, row)?;
+    Ok(shown(alloc, &subject.forest)?)
+}
+
+// The forest in print is this text.
+fn is_printed(
+    alloc: Global,
+    grammar: &Grammar,
+    forest: &Forest,
+    text: &[u8],
+) -> Result<bool, NoMemory>
+    requires lawful { IsLawful grammar.now }
+    requires valid { IsValidForest grammar.now forest.now }
+{
+    let printed = print_forest(alloc, grammar, forest)?;
+    Ok(printed.as_slice() == text)
+}
+
+fn reprinted(alloc: Global, subject: &Subject, text: &[u8]) -> Result<Vec<u8>, Stop>
+    requires form { IsAcceptedForm subject.now.accepted.grammar subject.now.accepted.normal }
+    requires valid { IsValidForest subject.now.accepted.grammar subject.now.forest }
+{
     if text.len() >= TOO_LONG {
         return Err(Stop::Unfit("the forest is too long"));
     }
-    let again = reprint_forest(alloc, &accepted.grammar, text)?;
-    let printed = print_forest(alloc, &accepted.grammar, &forest)?;
-    if printed.as_slice() == again.as_slice() {
+    let again = reprint_forest(alloc, &subject.accepted.grammar, text)?;
+    if is_printed(
+        alloc,
+        &subject.accepted.grammar,
+        &subject.forest,
+        again.as_slice(),
+    )? {
         Ok(again.into_vec())
     } else {
         Err(Stop::Unfit("of the forest another text is made"))
     }
+}
+
+/// The row's forest in print, made of the text. Of the forest the same is made.
+pub fn reprint(alloc: Global, row: &Row<'_>) -> Result<Vec<u8>, Stop> {
+    let text = text_of(row, "f")?;
+    let subject = subject_of(alloc, row)?;
+    reprinted(alloc, &subject, text)
 }

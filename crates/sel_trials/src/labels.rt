@@ -1,5 +1,6 @@
 // What the labels of trees say, and what the automaton tells behind each tree.
 ghost use Rattle.std.specs.Prelude.{◌≡◌, ◌<◌, ◌≤◌};
+ghost use Rattle.sel_auto.specs.Tables.{told_of};
 ghost use Rattle.sel_forest.specs.Valid.{IsValidForest, IsValidTree};
 ghost use Rattle.sel_items.specs.declared.items.Items.{Items};
 ghost use Rattle.sel_items.specs.Automata.{KeepsMeanings};
@@ -7,7 +8,7 @@ ghost use Rattle.sel_items.specs.Laws.{IsAcceptedForm};
 ghost use Rattle.sel_reduce.specs.Goals.{IsItemsAt};
 ghost use Rattle.sel_reduce.specs.Labelled.{IsLabelling};
 
-use crate::accepted::{Accepted, accept, forest_of};
+use crate::accepted::{Accepted, subject_of};
 use crate::stop::Stop;
 use sel_auto::PrivateAutomaton;
 use sel_base::{NoMemory, Steps};
@@ -125,22 +126,26 @@ fn put_items<A: Automaton>(
     Ok(())
 }
 
+fn yes_or_no(is_so: bool) -> &'static str {
+    if is_so { "yes" } else { "no" }
+}
+
 fn put_states(
     automaton: &PrivateAutomaton,
     labels: &Labels,
     text: &mut String,
 ) -> Result<(), NoMemory> {
+    let plain = plain_count(labels);
+    let states = automaton.states();
+    let keys = automaton.keys();
+    write!(text, "plain {plain} states {states} keys {keys}")?;
+    let evaluated = automaton.evaluated();
+    let used_up = yes_or_no(automaton.used_up());
+    let row_full = yes_or_no(automaton.row_full());
     write!(
         text,
-        "plain {} states {}",
-        plain_count(labels),
-        automaton.states()
+        " evaluated {evaluated} used_up {used_up} row_full {row_full}\n"
     )?;
-    write!(text, " keys {}", automaton.keys())?;
-    write!(text, " evaluated {}", automaton.evaluated())?;
-    let used_up = if automaton.used_up() { "yes" } else { "no" };
-    let row_full = if automaton.row_full() { "yes" } else { "no" };
-    write!(text, " used_up {used_up} row_full {row_full}\n")?;
     Ok(())
 }
 
@@ -154,25 +159,65 @@ fn put_rules(text: &mut String, rule: u16, count: usize) -> Result<(), NoMemory>
     Ok(())
 }
 
-fn put_cover(text: &mut String, cover: &Option<Cover>) -> Result<(), NoMemory> {
-    let Some(cover) = cover else {
-        text.push_str("no cover\n")?;
-        return Ok(());
-    };
-    write!(text, "cost {},{} by", cover.cost.first, cover.cost.second)?;
-    let mut last: u16 = 0;
-    let mut count: usize = 0;
-    for rule in cover.rules.as_slice() {
-        if *rule != last {
-            put_rules(text, last, count)?;
-            last = *rule;
-            count = 0;
-        }
-        count = count.saturating_add(1);
+// A run of the same rule.
+#[derive(Clone, Copy)]
+struct Run {
+    rule: u16,
+    count: usize,
+}
+
+// Puts the run that ends before the rule, if one does, and gives the one that the rule goes on with or begins.
+fn put_behind(text: &mut String, run: Run, rule: u16) -> Result<Run, NoMemory> {
+    if run.rule == rule {
+        let count = run.count.saturating_add(1);
+        return Ok(Run { rule, count });
     }
-    put_rules(text, last, count)?;
+    put_rules(text, run.rule, run.count)?;
+    Ok(Run { rule, count: 1 })
+}
+
+fn put_list(text: &mut String, rules: &[u16]) -> Result<(), NoMemory> {
+    let mut run = Run { rule: 0, count: 0 };
+    for rule in rules {
+        run = put_behind(text, run, *rule)?;
+    }
+    put_rules(text, run.rule, run.count)
+}
+
+fn put_found(text: &mut String, cover: &Cover) -> Result<(), NoMemory> {
+    write!(text, "cost {},{} by", cover.cost.first, cover.cost.second)?;
+    put_list(text, cover.rules.as_slice())?;
     text.push_str("\n")?;
     Ok(())
+}
+
+fn put_cover(text: &mut String, cover: &Option<Cover>) -> Result<(), NoMemory> {
+    match cover {
+        Some(cover) => put_found(text, cover),
+        None => Ok(text.push_str("no cover\n")?),
+    }
+}
+
+// What is wanted of the labels alone.
+fn put_labels(
+    automaton: &mut PrivateAutomaton,
+    accepted: &Accepted,
+    tree: &Tree,
+    labels: &Labels,
+    told: Told,
+    text: &mut String,
+) -> Result<(), NoMemory>
+    requires normal { automaton.old.normal ≡ accepted.now.normal }
+    requires form { IsAcceptedForm accepted.now.grammar accepted.now.normal }
+    requires tree { IsValidTree accepted.now.grammar tree.now }
+    requires labelled { IsLabelling accepted.now.grammar (told_of automaton.old).means tree.now labels.now.of }
+    ensures normal { automaton.new.normal ≡ automaton.old.normal }
+    ensures labelled { IsLabelling accepted.now.grammar (told_of automaton.new).means tree.now labels.now.of }
+{
+    if told != Told::Items {
+        put_states(automaton, labels, text)?;
+    }
+    put_items(automaton, accepted, tree, labels, told, text)
 }
 
 // Labels and reduces the tree, and tells what is wanted.
@@ -192,15 +237,12 @@ fn tell<L: Ledger>(
 {
     let Accepted { grammar, normal } = accepted;
     let labels = label_tree(automaton, alloc, normal, tree, steps)?;
-    if told != Told::Items {
-        put_states(automaton, &labels, text)?;
+    put_labels(automaton, accepted, tree, &labels, told, text)?;
+    if told != Told::All {
+        return Ok(());
     }
-    put_items(automaton, accepted, tree, &labels, told, text)?;
     let cover = reduce(automaton, alloc, grammar, normal, tree, &labels)?;
-    if told == Told::All {
-        put_cover(text, &cover)?;
-    }
-    Ok(())
+    Ok(put_cover(text, &cover)?)
 }
 
 fn tell_each<L: Ledger>(
@@ -241,9 +283,9 @@ fn tell_counted<L: Ledger>(
     requires valid { IsValidForest accepted.now.grammar forest.now }
 {
     let (states, rows) = room;
-    let mut text = String::new(alloc);
     let mut steps = Steps::<L>::new(blank);
     let mut automaton = PrivateAutomaton::new(alloc, &accepted.normal, states, rows)?;
+    let mut text = String::new(alloc);
     tell_each(
         &mut automaton,
         alloc,
@@ -267,22 +309,28 @@ fn room_of(words: &str) -> Option<(u32, u32)> {
     Some((states, rows))
 }
 
-/// What is told of each tree of the row's forest, by one automaton with the room that the row's words say.
-pub fn labels(alloc: Global, row: &Row<'_>, told: Told) -> Result<String, Stop> {
-    let accepted = accept(alloc, row)?;
-    let forest = forest_of(alloc, &accepted.grammar, row)?;
-    let Some((states, rows)) = room_of(row.words) else {
-        return Err(Stop::Unfit("the words are no room"));
-    };
-    if states > 32_768 || rows > 1_048_576 {
+// What is told of each tree of the forest.
+fn told_in(
+    alloc: Global,
+    accepted: &Accepted,
+    forest: &Forest,
+    room: (u32, u32),
+    told: Told,
+) -> Result<String, Stop>
+    requires form { IsAcceptedForm accepted.now.grammar accepted.now.normal }
+    requires valid { IsValidForest accepted.now.grammar forest.now }
+{
+    if room.0 > 32_768 || room.1 > 1_048_576 {
         return Err(Stop::Unfit("too much room"));
     }
-    tell_counted::<Brand>(
-        Blank::new(1),
-        alloc,
-        &accepted,
-        &forest,
-        (states, rows),
-        told,
-    )
+    tell_counted::<Brand>(Blank::new(1), alloc, accepted, forest, room, told)
+}
+
+/// What is told of each tree of the row's forest, by one automaton with the room that the row's words say.
+pub fn labels(alloc: Global, row: &Row<'_>, told: Told) -> Result<String, Stop> {
+    let subject = subject_of(alloc, row)?;
+    match room_of(row.words) {
+        Some(room) => told_in(alloc, &subject.accepted, &subject.forest, room, told),
+        None => Err(Stop::Unfit("the words are no room")),
+    }
 }

@@ -7,8 +7,16 @@ use std::alloc::Global;
 /// The most nodes that a made tree has.
 pub const MOST_NODES: u64 = 60;
 
+fn count_of_words(line: &str) -> u64 {
+    let mut count: u64 = 0;
+    for _ in line.split(' ') {
+        count = count.saturating_add(1);
+    }
+    count
+}
+
 /// Numbers that follow from a first one, by a linear congruential step (Knuth's of 64 bits).
-#[derive(Clone, Copy, Debug)]
+#[derive(Clone, Copy)]
 pub struct Chance {
     pub state: u64,
 }
@@ -26,28 +34,32 @@ impl Chance {
         (self.state >> 33) % limit
     }
 
-    /// One of the texts, or none where there is none.
-    fn one_of<'a>(&mut self, texts: &[&'a str]) -> &'a str {
-        if texts.is_empty() {
+    /// One of the line's words. `''` is the empty word.
+    fn one_of<'a>(&mut self, line: &'a str) -> &'a str {
+        let count = count_of_words(line);
+        if count == 0 {
             return "";
         }
-        let at = self.below(texts.len() as u64) as usize;
-        texts[at]
+        let at = self.below(count) as usize;
+        match line.split(' ').nth(at) {
+            Some(word) => { if word == "''" { "" } else { word } }
+            None => "",
+        }
     }
 }
 
 /// The names of the operators without kids, with one and with two, and what may stand behind a name: an
-/// attribute with its colon, or nothing. What stands here twice comes twice as often.
+/// attribute with its colon, or nothing: a line of words each. What stands here twice comes twice as often.
 #[derive(Clone, Copy)]
 pub struct Material<'a> {
-    pub leaves: &'a [&'a str],
-    pub unary: &'a [&'a str],
-    pub binary: &'a [&'a str],
-    pub attributes: &'a [&'a str],
+    pub leaves: &'a str,
+    pub unary: &'a str,
+    pub binary: &'a str,
+    pub attributes: &'a str,
 }
 
 // What is still to be written: a tree of so many nodes, or a byte.
-#[derive(Clone, Copy, Debug, Drop)]
+#[derive(Clone, Copy, Drop)]
 enum Task {
     Tree(u64),
     Byte(u8),
@@ -56,12 +68,49 @@ enum Task {
 fn put_name(
     chance: &mut Chance,
     material: &Material<'_>,
-    names: &[&str],
+    names: &str,
     text: &mut Vec<u8>,
 ) -> Result<(), NoMemory> {
     text.extend_from_slice(chance.one_of(names).as_bytes())?;
     text.extend_from_slice(chance.one_of(material.attributes).as_bytes())?;
     Ok(())
+}
+
+// Leaves a tree of so many nodes, and a byte behind it.
+fn put_tasks(tasks: &mut Vec<Task>, size: u64, byte: u8) -> Result<(), NoMemory> {
+    tasks.push(Task::Byte(byte))?;
+    tasks.push(Task::Tree(size))?;
+    Ok(())
+}
+
+fn put_unary(
+    chance: &mut Chance,
+    material: &Material<'_>,
+    size: u64,
+    tasks: &mut Vec<Task>,
+    text: &mut Vec<u8>,
+) -> Result<(), NoMemory>
+    requires { 2 ≤ size }
+{
+    put_name(chance, material, material.unary, text)?;
+    text.push(b'(')?;
+    put_tasks(tasks, size - 1, b')')
+}
+
+fn put_binary(
+    chance: &mut Chance,
+    material: &Material<'_>,
+    size: u64,
+    tasks: &mut Vec<Task>,
+    text: &mut Vec<u8>,
+) -> Result<(), NoMemory>
+    requires { 3 ≤ size }
+{
+    put_name(chance, material, material.binary, text)?;
+    let left = chance.below(size - 2) + 1;
+    text.push(b'(')?;
+    put_tasks(tasks, size - 1 - left, b')')?;
+    put_tasks(tasks, left, b',')
 }
 
 // Writes the root of a tree of so many nodes, and leaves the rest as tasks, the next one last.
@@ -73,23 +122,12 @@ fn put_root(
     text: &mut Vec<u8>,
 ) -> Result<(), NoMemory> {
     if size < 2 {
-        return put_name(chance, material, material.leaves, text);
+        put_name(chance, material, material.leaves, text)
+    } else if size == 2 || chance.below(3) == 0 {
+        put_unary(chance, material, size, tasks, text)
+    } else {
+        put_binary(chance, material, size, tasks, text)
     }
-    if size == 2 || chance.below(3) == 0 {
-        put_name(chance, material, material.unary, text)?;
-        text.push(b'(')?;
-        tasks.push(Task::Byte(b')'))?;
-        tasks.push(Task::Tree(size - 1))?;
-        return Ok(());
-    }
-    put_name(chance, material, material.binary, text)?;
-    let left = chance.below(size - 2) + 1;
-    text.push(b'(')?;
-    tasks.push(Task::Byte(b')'))?;
-    tasks.push(Task::Tree(size - 1 - left))?;
-    tasks.push(Task::Byte(b','))?;
-    tasks.push(Task::Tree(left))?;
-    Ok(())
 }
 
 // Writes a tree of so many nodes. Beside its root, each node leaves two tasks at most: a tree and a byte.

@@ -5,7 +5,7 @@ use sel_grammar::GrammarRefusal;
 use std::alloc::{AllocError, AllocFailed};
 
 /// Why a call gave nothing else.
-#[derive(Clone, Copy, Debug)]
+#[derive(Clone, Copy)]
 pub enum Stop {
     /// A text has a fault of this kind at this line and column.
     Fault(u8, u32, u32),

@@ -1,4 +1,4 @@
-use Rattle.sel_trials.proofs.accepted.accept.Goals as goal
+use Rattle.sel_trials.proofs.accepted.accepted_of.Goals as goal
 
 pub returns : goal.returns
 returns c = record {
