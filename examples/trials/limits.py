@@ -259,7 +259,7 @@ def main():
     some = (grammar.leaves[:2], grammar.unary[:2], grammar.binary[:1])
     judge(program, folder, path, grammar, 'many', many(draw, some, TREES, 1_000))
     for words in (['--trees', '1000000', '--size', '16'], ['--trees', '16000', '--size', '1000']):
-        if run(program, folder, ['make', path, *words])[0] != 0:
+        if run(program, folder, ['make', '@x86-64', *words])[0] != 0:
             wrong('make failed')
     print('all as wanted')
 
