@@ -73,6 +73,18 @@ struct sel_answer sel_line_text(struct sel *sel, const uint8_t *line, size_t lin
 /* Its rules in preorder, numbered from 1, for a compiler that emits by its own actions: `needs` items of `rules`. */
 struct sel_answer sel_line_rules(struct sel *sel, const uint8_t *line, size_t line_len, uint16_t *rules, size_t rules_len);
 
+/* The number of the grammar's operator of this name: their numbers go by the order of %term, from 0. UINT32_MAX: no
+ * operator has the name, or the handle is closed. */
+uint32_t sel_operator(struct sel *sel, const uint8_t *name, size_t name_len);
+
+/* What the rule of this number, from 1, is called: the number behind its `=` (or UINT32_MAX, where it has none), and
+ * where it begins in the grammar's text. false, and no change of `out`: there is no such rule, or the handle is closed. */
+struct sel_rule {
+    uint32_t external;
+    uint32_t line, column; /* from 1; the column counts bytes */
+};
+bool sel_rule_of(struct sel *sel, uint16_t rule, struct sel_rule *out);
+
 #ifdef __cplusplus
 }
 #endif

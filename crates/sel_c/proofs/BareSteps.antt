@@ -3,21 +3,20 @@
 --     bare_out         from what a `Bare` owns: the value in memory, the right to free it, the handle
 --     bare_in          and back
 --     told             the walk goes on at the machine values that a parameter is known to have
-use mathlib.Core.Path.{◌≡◌, refl, sym, subst}
-use mathlib.Core.List.{List, [], ◌∷◌, ◌++◌}
+use mathlib.Core.Path.{◌≡◌, refl}
+use mathlib.Core.List.{List, [], ◌∷◌}
 use Prim.Native.Nat.{ℕ}
 use seplogic.Ra.Ura.{Ura}
 use mir.Raw.{raw as bare}
 use mir.Val.{Val}
 use base.Fraction.{full_share}
-use base.Logic.{SProp, ent}
 use types.Logic.{Logic}
-use types.Kit.{Item, Goal, Seq, Step, step, ‵, ◌$◌, rewrite}
+use types.Kit.{Item, Goal, Seq, Step, ‵}
 use denote.RattleType.{RattleType}
 use denote.Memory.{part_at}
-use denote.RawPtr.{Ptr, block_ptr}
+use denote.RawPtr.{block_ptr}
 use Rattle.core.proofs.alloc.Calls.{Fits, token}
-use Rattle.std_alloc.proofs.BoxSteps.Form.{Bx, D, X, R, P, B, τ, word, handle}
+use Rattle.std_alloc.proofs.BoxSteps.Form.{Bx, D, X, R, P, τ, word, handle}
 use Rattle.std_alloc.proofs.BoxSteps.Steps.{box_out, box_in}
 use Rattle.sel_c.specs.contracts.bare.Bare as contract
 

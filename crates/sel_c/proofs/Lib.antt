@@ -1,3 +1,4 @@
 mod BareSteps
 mod TableSteps
+mod Naming
 mod Telling

@@ -5,7 +5,6 @@ use Rattle.sel_grammar.specs.Costs.{Cost}
 use Rattle.sel_grammar.specs.PlainTrees.{PlainTree}
 use Rattle.sel_forest.specs.declared.forest.Tree.{Tree}
 use Rattle.sel_forest.specs.declared.forest.Forest.{Forest}
-use Rattle.sel_forest.specs.declared.refusal.ForestFault.{ForestFault}
 use Rattle.sel_forest.specs.ForestText.{SpellsForest, IsForestFault}
 use Rattle.sel_forest.specs.Postorder.{IsPostorderOf}
 use Rattle.sel_work.specs.declared.answer.Answer.{Answer}

@@ -6,6 +6,8 @@ ghost use Rattle.sel_work.specs.declared.answer.Goal.TheVariants as goals;
 ghost use Rattle.sel_c.specs.Usable.{IsUsable, IsSameSelector};
 ghost use Rattle.sel_c.specs.Answers.{TellsText, TellsRules, TellsOfHeldLine};
 ghost use Rattle.sel_c.specs.Openings.{TellsOfOpening};
+ghost use Rattle.sel_c.specs.Operators.{IsOperatorNumber};
+ghost use Rattle.sel_c.specs.Rules.{TellsRule, held_rule};
 ghost use Rattle.sel_c.specs.Rooms.{MakesRoom};
 
 mod accepted;
@@ -15,13 +17,15 @@ mod handle;
 mod held;
 mod line;
 mod opening;
+mod operators;
 mod told;
 
 use handle::Handle;
 use line::{line_rules, line_text};
 use opening::{accept, tell_unopened};
+use operators::{NO_OPERATOR, operator_number, tell_rule};
 use std::alloc::Global;
-use told::{DONE, IS_CLOSED, IS_OPEN, Told};
+use told::{DONE, IS_CLOSED, IS_OPEN, Told, ToldRule};
 
 /// The most states and transitions that may be kept.
 const MOST_STATES: u32 = 32_768;
@@ -117,6 +121,45 @@ pub extern "C" fn sel_room(alloc: Global, sel: &mut Handle, states: u32, rows: u
             table.make_room(states, rows);
             sel.put(table);
             true
+        }
+        None => false,
+    }
+}
+
+/// The number of the operator of this name, or the greatest number of 32 bits where there is none.
+#[unsafe(no_mangle)]
+pub extern "C" fn sel_operator(alloc: Global, sel: &mut Handle, name: &[u8]) -> u32
+    requires usable { IfSome sel.old.held.table IsUsable }
+    ensures number { IsOperatorNumber sel.old.held.table name.now result }
+    ensures same { sel.new.held.table ≡ sel.old.held.table }
+{
+    match sel.take(alloc) {
+        Some(table) => {
+            let number = operator_number(&table.grammar, name);
+            sel.put(table);
+            number
+        }
+        None => NO_OPERATOR,
+    }
+}
+
+/// What the rule of this number is called, as `sel_line_rules` numbers it.
+#[unsafe(no_mangle)]
+pub extern "C" fn sel_rule_of(
+    alloc: Global,
+    sel: &mut Handle,
+    rule: u16,
+    out: &mut ToldRule,
+) -> bool
+    requires usable { IfSome sel.old.held.table IsUsable }
+    ensures told { TellsRule (held_rule sel.old.held.table rule) out.old out.new result }
+    ensures same { sel.new.held.table ≡ sel.old.held.table }
+{
+    match sel.take(alloc) {
+        Some(table) => {
+            let told = tell_rule(&table.grammar, rule, out);
+            sel.put(table);
+            told
         }
         None => false,
     }

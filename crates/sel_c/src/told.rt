@@ -45,6 +45,16 @@ pub struct Told {
     pub needs: usize,
 }
 
+/// What is told of a rule: its external number, or the greatest number of 32 bits where it has none, and its
+/// place in the grammar's text.
+#[repr(C)]
+#[derive(Clone, Copy)]
+pub struct ToldRule {
+    pub external: u32,
+    pub line: u32,
+    pub column: u32,
+}
+
 impl Told {
     pub fn of_code(code: u32) -> Told
         ensures { result ≡ told_code code }

@@ -1,4 +1,4 @@
-use Rattle.std.proofs.Common.{refl, sym, ◌∙◌}
+use Rattle.std.proofs.Common.{sym, ◌∙◌}
 use Rattle.sel_c.specs.Openings.{opened, refused}
 use Rattle.sel_c.proofs.Telling.{opening, none_held}
 use Rattle.sel_c.proofs.sel_open.Goals as goal

@@ -33,7 +33,7 @@ use Rattle.std_alloc.proofs.BoxSteps.Steps.{box_out, box_in}
 use Rattle.std.proofs.raw_atomic.Walks.{proved_at, leaves}
 use Rattle.std_alloc.specs.contracts.boxed.Box.into_raw_with_allocator as opens
 use Rattle.std_alloc.proofs.boxed.Box.into_raw_with_allocator.Met.{met}
-use Rattle.sel_c.proofs.BareSteps.{Bare, bare_in}
+use Rattle.sel_c.proofs.BareSteps.{bare_in}
 use Rattle.sel_c.specs.contracts.bare.Bare.of_box as f
 use Rattle.sel_c.specs.contracts.bare.Bare.of_box.Key.{name as #key}
 use Rattle.sel_c.proofs.bare.Bare.of_box.Statement.{statement}

@@ -5,10 +5,10 @@ use mir.Val.{Val, vstruct, vcons, vnil, vnull, has_ty, WT}
 use base.Logic.{SProp, ent, emp, id⊢}
 use base.Fml.{ftrue}
 use prog.Wp.{WpFn}
-use types.Kit.{Item, ‵, raw, ◌⊛◌, ◌$◌, ◌∵◌, !, qed, by, keep, move, drop, suffices, use0, use1, split, fsplit, fjoin, fpack, feq_i}
-use types.Run.{stop, fld, of_opd, no_more, and_then, returns, enter, lit}
-use types.ByLocal.{alloc_all, pass_all, free_all, look_at, get, get_in, sets}
-use types.Part.{agg, sub, whole}
+use types.Kit.{‵, raw, ◌⊛◌, ◌$◌, ◌∵◌, !, qed, by, keep, move, suffices, use0, use1, split, fsplit, fjoin, fpack, feq_i}
+use types.Run.{no_more, and_then, returns, enter, lit}
+use types.ByLocal.{alloc_all, pass_all, free_all, look_at, get, sets}
+use types.Part.{agg}
 use contract.Monad.{fact, fact_i}
 use contract.Running.{tables}
 use denote.Exit.{yes}
