@@ -1,29 +1,31 @@
--- Job by job the text becomes what is to be printed.
-use Rattle.std.proofs.Common.{◌≡◌, ℕ, zero, suc, ◌+◌, ◌-◌, ◌*◌, ◌^◌, ◌<◌, ◌≤◌, ◌⊎◌, inl, inr, false, if◌then◌else◌, Option, Some, None, List, [], ◌∷◌, ◌++◌, refl, ap, sym, ◌∙◌, subst, append_assoc, length, drop, slice_get, slice_set, arith, length-append, map, reverse, add-one}
-use Rattle.sel_grammar.specs.declared.emission.Emitted.TheVariants.{Temporary}
+-- Frame by frame the sheet comes to show what is to be printed.
+use Rattle.std.proofs.Common.{◌≡◌, ℕ, zero, suc, ◌+◌, ◌-◌, ◌*◌, ◌^◌, ◌<◌, ◌≤◌, ◌⊎◌, inl, inr, Bool, true, false, Option, Some, None, List, [], ◌∷◌, ◌++◌, refl, ap, sym, ◌∙◌, subst, append_assoc, length, drop, slice_get, slice_set, arith, length-append, map, reverse, add-one}
 use Rattle.std.specs.List.{sum_by}
 use Rattle.std.proofs.lemmas.List.{reverse-append}
 use Rattle.std.proofs.lemmas.List.Sums.{sum_by_push, sum_by-cons}
 use Rattle.std.proofs.Math.Nat.{mul-le-mul_left, pow-le-pow_right, one-le-pow, pow-suc}
 use Rattle.sel_grammar.specs.declared.grammar.Grammar.{Grammar}
 use Rattle.sel_grammar.specs.declared.grammar.Part.{Part}
-use Rattle.sel_grammar.specs.Expansions.{Text, filled, is_instruction, has_result}
+use Rattle.sel_grammar.specs.Expansions.{Text, filled}
 use Rattle.sel_forest.specs.declared.forest.Node.{Node}
 use Rattle.sel_forest.proofs.Matching.{some_same, some_none}
 use Rattle.sel_forest.proofs.PlaceLemmas.{append-none}
-use Rattle.sel_expand.specs.Booked.{Booked}
-use Rattle.sel_expand.specs.declared.printing.Spot.{Spot}
-use Rattle.sel_expand.specs.declared.printing.Job.{Job}
-use Rattle.sel_expand.specs.declared.printing.Job.TheVariants.{Fill, Note}
-use Rattle.sel_expand.proofs.Slotted.{range_grow, range_end}
+use Rattle.sel_expand.specs.declared.printing.Frame.{Frame}
+use Rattle.sel_expand.specs.declared.printing.Frame.TheVariants.{Fill, Note}
+use Rattle.sel_expand.specs.declared.sheet.Span.{Span}
+use Rattle.sel_expand.specs.declared.templates.Kind.TheVariants.{Fragment}
+use Rattle.sel_expand.specs.Reductions.{Reduced}
 use Rattle.sel_expand.specs.Running.{attribute_at, parts_at}
-use Rattle.sel_expand.specs.Books.{text_at, filled_at, AreTexts}
-use Rattle.sel_expand.specs.Printing.{flat, IsSpot, SpotsHold, rest_of, from, Leads, IsKidOf, Puts, printed, later, part_wanted, Turns, ended, went, base, parts_or_none, weight, work}
+use Rattle.sel_expand.specs.Sheets.{shown, IsCut, IsEnded}
+use Rattle.sel_expand.specs.Values.{text_at, filled_at, value_by, AreTexts}
+use Rattle.sel_expand.specs.Printing.{flat, IsSpan, SpansHold, rest_of, from, Leads, IsKidOf, Puts, printed, postponed, part_wanted, FillsTo, Fills, ended, left, filled_up, IsDone, base, parts_or_none, weight, work}
+use Rattle.sel_expand.proofs.Sheets.{shown-append, shown-none}
+use Rattle.sel_expand.proofs.Slotted.{range_grow, range_end}
 
-pub spots_grow : (texts : List Text) (spots : List (Option Spot)) (out more : Text) → SpotsHold texts spots out → SpotsHold texts spots (out ++ more)
-spots_grow texts spots out more h i spot e =
-    let s = h i spot e in
-    record { order = s.order; inside = omega (arith, s.inside, length-append out more); holds = range_grow out more spot.start spot.end s.order s.inside ∙ s.holds }
+pub spans_grow : (b : Bool) (texts : List Text) (spans : List (Option Span)) (out more : Text) → SpansHold b texts spans out → SpansHold b texts spans (out ++ more)
+spans_grow b texts spans out more h i span e =
+    let s = h i span e in
+    record { order = s.order; inside = omega (arith, s.inside, length-append out more); holds = range_grow out more span.start span.end s.order s.inside ∙ s.holds }
 
 get-set : {A : Type 0} (xs : List A) (k i : ℕ) (v w : A) → slice_get (slice_set xs k v) i ≡ Some w → ((i ≡ k) × (v ≡ w)) ⊎ (slice_get xs i ≡ Some w)
 get-set [] k i v w h = inr h
@@ -40,15 +42,22 @@ flat_some : {A : Type 0} (o : Option (Option A)) (x : A) → flat o ≡ Some x �
 flat_some None x h = absurd (some_none (sym h))
 flat_some (Some o) x h = ap Some h
 
-pub spots_noted : (texts : List Text) (spots : List (Option Spot)) (out : Text) (i start : ℕ) (spot : Spot) → spot ≡ record { start = start; end = length out } → IsSpot texts out i start (length out) → SpotsHold texts spots out
-    → SpotsHold texts (slice_set spots i (Some spot)) out
-spots_noted texts spots out i start spot is here h j other e = go (get-set spots i j (Some spot) (Some other) (flat_some (slice_get (slice_set spots i (Some spot)) j) other e))
+pub spans_noted : (b : Bool) (texts : List Text) (spans : List (Option Span)) (out : Text) (i start : ℕ) (span : Span) → span ≡ record { start = start; end = length out } → IsSpan b texts out i start (length out) → SpansHold b texts spans out
+    → SpansHold b texts (slice_set spans i (Some span)) out
+spans_noted b texts spans out i start span is here h j other e = go (get-set spans i j (Some span) (Some other) (flat_some (slice_get (slice_set spans i (Some span)) j) other e))
   where
-    go : ((j ≡ i) × (Some spot ≡ Some other)) ⊎ (slice_get spots j ≡ Some (Some other)) → IsSpot texts out j other.start other.end
+    go : ((j ≡ i) × (Some span ≡ Some other)) ⊎ (slice_get spans j ≡ Some (Some other)) → IsSpan b texts out j other.start other.end
     go (inl (q, p)) =
         let same : record { start = start; end = length out } ≡ other = sym is ∙ some_same p in
-        subst (λ (x : Spot). IsSpot texts out j x.start x.end) same (subst (λ x. IsSpot texts out x start (length out)) (sym q) here)
+        subst (λ (x : Span). IsSpan b texts out j x.start x.end) same (subst (λ x. IsSpan b texts out x start (length out)) (sym q) here)
     go (inr q) = h j other (ap flat q)
+
+pub no_spans : (b : Bool) (texts : List Text) (spans : List (Option Span)) (out : Text) → ((i : ℕ) → flat (slice_get spans i) ≡ None) → SpansHold b texts spans out
+no_spans b texts spans out h i span e = absurd (some_none (sym e ∙ h i))
+
+not_both : (b : Bool) → b ≡ true → b ≡ false → ⊥
+not_both true h k = cc
+not_both false h k = cc
 
 -- the parts of a list from a place on
 drop_some : {A : Type 0} (xs : List A) (p : ℕ) (x : A) → slice_get xs p ≡ Some x → drop p xs ≡ x ∷ drop (suc p) xs
@@ -62,17 +71,17 @@ drop_none [] (suc p) h = refl
 drop_none (y ∷ xs) zero h = cc
 drop_none (y ∷ xs) (suc p) h = drop_none xs p h
 
-get_within : {A : Type 0} (xs : List A) (p : ℕ) (x : A) → slice_get xs p ≡ Some x → p < length xs
+pub get_within : {A : Type 0} (xs : List A) (p : ℕ) (x : A) → slice_get xs p ≡ Some x → p < length xs
 get_within [] p x h = absurd (some_none (sym h))
 get_within (y ∷ xs) zero x h = omega arith
 get_within (y ∷ xs) (suc p) x h = let k = get_within xs p x h in omega arith
 
 -- no template has more parts than all together
-one_of_all : (g : Grammar) (entries : List Booked) (j : ℕ) (e : Booked) → slice_get entries j ≡ Some e → length (parts_at g e.entry.rule) ≤ sum_by (λ (x : Booked). length (parts_at g x.entry.rule)) entries
-one_of_all g [] j e h = absurd (some_none (sym h))
-one_of_all g (x ∷ entries) zero e h = let q : length (parts_at g x.entry.rule) ≡ length (parts_at g e.entry.rule) = ap (λ (y : Booked). length (parts_at g y.entry.rule)) (some_same h) in
-    omega (arith, sum_by-cons (λ (y : Booked). length (parts_at g y.entry.rule)) x entries)
-one_of_all g (x ∷ entries) (suc j) e h = let q = one_of_all g entries j e h in omega (arith, sum_by-cons (λ (y : Booked). length (parts_at g y.entry.rule)) x entries)
+one_of_all : (g : Grammar) (rs : List Reduced) (j : ℕ) (r : Reduced) → slice_get rs j ≡ Some r → length (parts_at g r.own.rule) ≤ sum_by (λ (x : Reduced). length (parts_at g x.own.rule)) rs
+one_of_all g [] j r h = absurd (some_none (sym h))
+one_of_all g (x ∷ rs) zero r h = let q : length (parts_at g x.own.rule) ≡ length (parts_at g r.own.rule) = ap (λ (y : Reduced). length (parts_at g y.own.rule)) (some_same h) in
+    omega (arith, sum_by-cons (λ (y : Reduced). length (parts_at g y.own.rule)) x rs)
+one_of_all g (x ∷ rs) (suc j) r h = let q = one_of_all g rs j r h in omega (arith, sum_by-cons (λ (y : Reduced). length (parts_at g y.own.rule)) x rs)
 
 -- a kid's template is lighter than a part of its parent's
 lighter : (b n i j : ℕ) → n + 3 ≤ b → j < i → b ^ j * (1 + n) + 1 < b ^ i
@@ -104,123 +113,164 @@ step_down b i n p h =
     both : (c x y : ℕ) → c * (x + y) ≡ c * x + c * y
     both c x y = grind arith
 
-pub no_template : (g : Grammar) (nodes : List Node) (entries : List Booked) (i p : ℕ) → slice_get entries i ≡ None → (texts : List Text) → from g nodes entries texts i p ≡ []
-no_template g nodes entries i p none texts = ap (λ o. rest_of g nodes texts o p) none
+-- the further on in a template, the less is left of it
+further : (b i n p q : ℕ) → p ≤ q → b ^ i * (1 + (n - q)) ≤ b ^ i * (1 + (n - p))
+further b i n p q h = mul-le-mul_left {m = 1 + (n - q)} {n = 1 + (n - p)} (b ^ i) (omega arith)
 
-pub template_ended : (g : Grammar) (nodes : List Node) (entries : List Booked) (i p : ℕ) (e : Booked) → slice_get entries i ≡ Some e → slice_get (parts_at g e.entry.rule) p ≡ None → (texts : List Text) → from g nodes entries texts i p ≡ []
-template_ended g nodes entries i p e at none texts =
-    ap (λ o. rest_of g nodes texts o p) at ∙ ap (filled (map (text_at texts) e.kids) (attribute_at nodes e.entry.at) e.entry.next) (drop_none (parts_at g e.entry.rule) p none)
+pub no_template : (g : Grammar) (nodes : List Node) (rs : List Reduced) (i p : ℕ) → slice_get rs i ≡ None → (texts : List Text) → from g nodes rs texts i p ≡ []
+no_template g nodes rs i p none texts = ap (λ o. rest_of g nodes texts o p) none
 
-module _ (g : Grammar) (nodes : List Node) (entries : List Booked) (texts : List Text) (are : AreTexts g nodes entries texts) where
-  -- the template of an entry goes on by a part
-  from_part : (i p : ℕ) (e : Booked) (part : Part) → slice_get entries i ≡ Some e → slice_get (parts_at g e.entry.rule) p ≡ Some part
-      → from g nodes entries texts i p ≡ part_wanted nodes e part texts ++ from g nodes entries texts i (p + 1)
-  from_part i p e part at here =
-      ap (λ o. rest_of g nodes texts o p) at
-      ∙ ap (filled (map (text_at texts) e.kids) (attribute_at nodes e.entry.at) e.entry.next) (drop_some (parts_at g e.entry.rule) p part here)
-      ∙ ap (λ n. part_wanted nodes e part texts ++ rest_of g nodes texts (Some e) n) (sym (add-one p))
-      ∙ ap (λ o. part_wanted nodes e part texts ++ rest_of g nodes texts o (p + 1)) (sym at)
+pub template_ended : (g : Grammar) (nodes : List Node) (rs : List Reduced) (i p : ℕ) (r : Reduced) → slice_get rs i ≡ Some r → slice_get (parts_at g r.own.rule) p ≡ None → (texts : List Text) → from g nodes rs texts i p ≡ []
+template_ended g nodes rs i p r at none texts =
+    ap (λ o. rest_of g nodes texts o p) at ∙ ap (filled (map (text_at texts) r.kids) (attribute_at nodes r.own.at) r.own.next) (drop_none (parts_at g r.own.rule) p none)
 
+-- nothing is printed of the template yet
+pub filled_first : (b : Bool) (g : Grammar) (nodes : List Node) (rs : List Reduced) (spans : List (Option Span)) (i p : ℕ) (out : Text) → FillsTo b g nodes rs spans i p p out out
+filled_first b g nodes rs spans i p out = λ texts are hold. record { more = []; grown = append-none out; rest = refl }
+
+-- the template of a reduction goes on by a part
+from_part : (g : Grammar) (nodes : List Node) (rs : List Reduced) (texts : List Text) (i p : ℕ) (r : Reduced) (part : Part) → slice_get rs i ≡ Some r → slice_get (parts_at g r.own.rule) p ≡ Some part
+    → from g nodes rs texts i p ≡ part_wanted nodes r part texts ++ from g nodes rs texts i (p + 1)
+from_part g nodes rs texts i p r part at here =
+    ap (λ o. rest_of g nodes texts o p) at
+    ∙ ap (filled (map (text_at texts) r.kids) (attribute_at nodes r.own.at) r.own.next) (drop_some (parts_at g r.own.rule) p part here)
+    ∙ ap (λ n. part_wanted nodes r part texts ++ rest_of g nodes texts (Some r) n) (sym (add-one p))
+    ∙ ap (λ o. part_wanted nodes r part texts ++ rest_of g nodes texts o (p + 1)) (sym at)
+
+-- one part more is printed
+pub filled_next : (b : Bool) (g : Grammar) (nodes : List Node) (rs : List Reduced) (spans : List (Option Span)) (i p q : ℕ) (first out out' : Text) (later : Option ℕ) (r : Reduced) (part : Part) → later ≡ None → slice_get rs i ≡ Some r
+    → slice_get (parts_at g r.own.rule) q ≡ Some part → FillsTo b g nodes rs spans i p q first out → Puts b g nodes rs spans out out' later (part_wanted nodes r part) (IsKidOf r) → FillsTo b g nodes rs spans i p (q + 1) first out'
+filled_next b g nodes rs spans i p q first out out' later r part now at here filled (postponed kid x some is there fragment same value) = absurd (some_none (sym some ∙ now))
+filled_next b g nodes rs spans i p q first out out' later r part now at here filled (printed none puts) = λ texts are hold.
+    let f = filled texts are hold in
+    let w = shown b (part_wanted nodes r part texts) in
+    let rest = shown b (from g nodes rs texts i (q + 1)) in
+    let grows : out' ≡ out ++ w = puts texts are (subst (λ x. SpansHold b texts spans x) (sym f.grown) (spans_grow b texts spans first f.more hold)) in
+    record {
+      more = f.more ++ w;
+      grown = grows ∙ ap (λ x. x ++ w) f.grown ∙ append_assoc first f.more w;
+      rest = append_assoc f.more w rest ∙ ap (λ x. f.more ++ x) (sym (shown-append b (part_wanted nodes r part texts) (from g nodes rs texts i (q + 1))) ∙ ap (shown b) (sym (from_part g nodes rs texts i q r part at here))) ∙ f.rest;
+    }
+
+-- the value of a kid is to be printed first
+pub filled_left : (b : Bool) (g : Grammar) (nodes : List Node) (rs : List Reduced) (spans : List (Option Span)) (i p q kid : ℕ) (first out out' : Text) (frames frames' : List Frame) (later : Option ℕ) (r : Reduced) (part : Part) → later ≡ Some kid
+    → p ≤ q → slice_get rs i ≡ Some r → slice_get (parts_at g r.own.rule) q ≡ Some part → FillsTo b g nodes rs spans i p q first out → Puts b g nodes rs spans out out' later (part_wanted nodes r part) (IsKidOf r)
+    → frames' ≡ ((frames ++ Fill i (q + 1) ∷ []) ++ Note kid (length out') ∷ []) ++ Fill kid 0 ∷ [] → Fills b g nodes rs spans i p first out' frames frames' false
+filled_left b g nodes rs spans i p q kid first out out' frames frames' later r part now order at here filled (printed none puts) new = absurd (some_none (sym now ∙ none))
+filled_left b g nodes rs spans i p q kid first out out' frames frames' later r part now order at here filled (postponed kid' x some is there fragment same wants) new =
+    let e : kid' ≡ kid = some_same (sym some ∙ now) in
+    left q kid r x part refl order at here (subst (IsKidOf r) e is) (ap (slice_get rs) (sym e) ∙ there) fragment (λ texts. wants texts ∙ ap (text_at texts) e) new
+    (subst (λ y. FillsTo b g nodes rs spans i p q first y) (sym same) filled)
+
+module _ (g : Grammar) (nodes : List Node) (rs : List Reduced) (texts : List Text) (are : AreTexts g nodes rs texts) where
   -- the whole template of a fragment is its value
-  pub from_first : (j : ℕ) (e : Booked) → slice_get entries j ≡ Some e → is_instruction (parts_at g e.entry.rule) ≡ false → from g nodes entries texts j 0 ≡ text_at texts j
-  from_first j e at not = ap (λ o. rest_of g nodes texts o 0) at ∙ sym (are.each j e at ∙ ap (λ b. if b then (if has_result (parts_at g e.entry.rule) then Temporary e.entry.next ∷ [] else []) else filled_at g nodes texts e) not)
+  pub from_first : (j : ℕ) (r : Reduced) → slice_get rs j ≡ Some r → r.own.kind ≡ Fragment → from g nodes rs texts j 0 ≡ text_at texts j
+  from_first j r at fragment = ap (λ o. rest_of g nodes texts o 0) at ∙ sym (are.each j r at ∙ ap (λ k. value_by k r.own.next (filled_at g nodes texts r)) fragment)
 
-  pub turn_falls : (spots : List (Option Spot)) (i p : ℕ) (out : Text) (jobs : List Job) (out' : Text) (jobs' : List Job) → Turns g nodes entries spots i p out out' jobs jobs' → work g entries jobs' < work g entries (jobs ++ Fill i p ∷ [])
-  turn_falls spots i p out jobs out' jobs' (ended e same none) =
-      let q : work g entries jobs' ≡ work g entries jobs = ap (work g entries) same in
-      omega (arith, q, sum_by_push (weight g entries) jobs (Fill i p), some_work (base g entries) i (length (parts_or_none g (slice_get entries i)) - p) (omega arith))
-  turn_falls spots i p out jobs out' jobs' (went e part at here (printed more f same is)) =
-      let q : work g entries jobs' ≡ work g entries (jobs ++ Fill i (p + 1) ∷ []) = ap (work g entries) same in
-      let long : length (parts_or_none g (slice_get entries i)) ≡ length (parts_at g e.entry.rule) = ap (λ o. length (parts_or_none g o)) at in
-      let low : p < length (parts_at g e.entry.rule) = get_within (parts_at g e.entry.rule) p part here in
+  pub fill_falls : (b : Bool) (spans : List (Option Span)) (i p : ℕ) (out : Text) (frames : List Frame) (out' : Text) (frames' : List Frame) (full : Bool) → full ≡ false → Fills b g nodes rs spans i p out out' frames frames' full
+      → work g rs frames' < work g rs (frames ++ Fill i p ∷ [])
+  fill_falls b spans i p out frames out' frames' full not (ended q go same to none) =
+      let e : work g rs frames' ≡ work g rs frames = ap (work g rs) same in
+      omega (arith, e, sum_by_push (weight g rs) frames (Fill i p), some_work (base g rs) i (length (parts_or_none g (slice_get rs i)) - p) (omega arith))
+  fill_falls b spans i p out frames out' frames' full not (filled_up q is over to) = absurd (not_both full is not)
+  fill_falls b spans i p out frames out' frames' full not (left q kid r x part go order at here is there fragment wants new to) =
+      let long : length (parts_or_none g (slice_get rs i)) ≡ length (parts_at g r.own.rule) = ap (λ o. length (parts_or_none g o)) at in
+      let low : q < length (parts_at g r.own.rule) = get_within (parts_at g r.own.rule) q part here in
+      let short : length (parts_or_none g (slice_get rs kid)) ≡ length (parts_at g x.own.rule) = ap (λ o. length (parts_or_none g o)) there in
+      let all = one_of_all g rs kid x there in
+      let under : kid < i = are.below i r is.0 kid at is.1 in
+      let one = frames ++ Fill i (q + 1) ∷ [] in
+      let e : work g rs frames' ≡ work g rs ((one ++ Note kid (length out') ∷ []) ++ Fill kid 0 ∷ []) = ap (work g rs) new in
       omega (
         arith,
-        q,
-        sum_by_push (weight g entries) jobs (Fill i p),
-        sum_by_push (weight g entries) jobs (Fill i (p + 1)),
-        step_down (base g entries) i (length (parts_or_none g (slice_get entries i))) p (omega arith),
-        one-le-pow i (base g entries) (omega arith),
-      )
-  turn_falls spots i p out jobs out' jobs' (went e part at here (later kid x is there not f new wants)) =
-      let long : length (parts_or_none g (slice_get entries i)) ≡ length (parts_at g e.entry.rule) = ap (λ o. length (parts_or_none g o)) at in
-      let low : p < length (parts_at g e.entry.rule) = get_within (parts_at g e.entry.rule) p part here in
-      let short : length (parts_or_none g (slice_get entries kid)) ≡ length (parts_at g x.entry.rule) = ap (λ o. length (parts_or_none g o)) there in
-      let all = one_of_all g entries kid x there in
-      let under : kid < i = are.below i e is.0 kid at is.1 in
-      let one = jobs ++ Fill i (p + 1) ∷ [] in
-      let q : work g entries jobs' ≡ work g entries ((one ++ Note kid (length out) ∷ []) ++ Fill kid 0 ∷ []) = ap (work g entries) new in
-      omega (
-        arith,
-        q,
-        sum_by_push (weight g entries) jobs (Fill i p),
-        sum_by_push (weight g entries) jobs (Fill i (p + 1)),
-        sum_by_push (weight g entries) (one ++ Note kid (length out) ∷ []) (Fill kid 0),
-        sum_by_push (weight g entries) one (Note kid (length out)),
-        step_down (base g entries) i (length (parts_or_none g (slice_get entries i))) p (omega arith),
-        lighter (base g entries) (length (parts_or_none g (slice_get entries kid)) - 0) i kid (omega arith) under,
+        e,
+        sum_by_push (weight g rs) frames (Fill i p),
+        sum_by_push (weight g rs) frames (Fill i (q + 1)),
+        sum_by_push (weight g rs) (one ++ Note kid (length out') ∷ []) (Fill kid 0),
+        sum_by_push (weight g rs) one (Note kid (length out')),
+        step_down (base g rs) i (length (parts_or_none g (slice_get rs i))) q (omega arith),
+        further (base g rs) i (length (parts_or_none g (slice_get rs i))) p q order,
+        lighter (base g rs) (length (parts_or_none g (slice_get rs kid)) - 0) i kid (omega arith) under,
       )
 
-  module _ (target : Text) (spots : List (Option Spot)) (i p : ℕ) (out : Text) (jobs : List Job) (hold : SpotsHold texts spots out) where
-    abbrev Goes : Text → List Job → Type 0
-    Goes out' jobs' = SpotsHold texts spots out' × Leads g nodes entries texts target out' (reverse jobs')
+  module _ (b : Bool) (target : Text) where
+    leads_front : (frames : List Frame) (out : Text) → Leads b g nodes rs texts target out frames → (more : Text) × (out ++ more ≡ target)
+    leads_front [] out h = ([], sym (append-none out) ∙ h)
+    leads_front (Fill i p ∷ frames) out h =
+        let (more, e) = leads_front frames (out ++ shown b (from g nodes rs texts i p)) h in
+        (shown b (from g nodes rs texts i p) ++ more, sym (append_assoc out (shown b (from g nodes rs texts i p)) more) ∙ e)
+    leads_front (Note i start ∷ frames) out h = leads_front frames out h.1
 
-    put_leads : (out' : Text) (jobs' : List Job) (wanted : List Text → Text) (IsKid : ℕ → Type 0) (after : List Job) → Puts g nodes entries spots out out' after jobs' wanted IsKid
-        → Leads g nodes entries texts target (out ++ wanted texts) (reverse after) → Goes out' jobs'
-    put_leads out' jobs' wanted IsKid after (printed more e same is) lead =
-        let now : out' ≡ out ++ wanted texts = e ∙ ap (λ x. out ++ x) (is texts are hold) in (
-          subst (λ x. SpotsHold texts spots x) (sym now) (spots_grow texts spots out (wanted texts) hold),
-          subst (λ x. Leads g nodes entries texts target x (reverse jobs')) (sym now) (subst (λ x. Leads g nodes entries texts target (out ++ wanted texts) (reverse x)) (sym same) lead),
-        )
-    put_leads out' jobs' wanted IsKid after (later kid e is at not same new wants) lead =
-        let value : wanted texts ≡ from g nodes entries texts kid 0 = wants texts ∙ sym (from_first kid e at not) in
-        let order : reverse jobs' ≡ Fill kid 0 ∷ (Note kid (length out) ∷ reverse after) =
-        ap reverse new ∙ reverse-append (after ++ Note kid (length out) ∷ []) (Fill kid 0 ∷ []) ∙ ap (λ x. Fill kid 0 ∷ x) (reverse-append after (Note kid (length out) ∷ [])) in
-        let spot : IsSpot texts (out ++ from g nodes entries texts kid 0) kid (length out) (length (out ++ from g nodes entries texts kid 0)) =
-        record { order = omega (arith, length-append out (from g nodes entries texts kid 0)); inside = omega arith; holds = range_end out (from g nodes entries texts kid 0) ∙ from_first kid e at not } in (
-          subst (λ x. SpotsHold texts spots x) (sym same) hold,
-          subst (λ x. Leads g nodes entries texts target x (reverse jobs')) (sym same) (subst (λ x. Leads g nodes entries texts target out x) (sym order)
-              (spot, subst (λ x. Leads g nodes entries texts target (out ++ x) (reverse after)) value lead)),
-        )
+    module _ (spans : List (Option Span)) (out : Text) (frames old : List Frame) (hold : SpansHold b texts spans out) (lead : Leads b g nodes rs texts target out (reverse old)) where
+      first_of : (frame : Frame) → old ≡ frames ++ frame ∷ [] → Leads b g nodes rs texts target out (frame ∷ reverse frames)
+      first_of frame e = subst (λ x. Leads b g nodes rs texts target out x) (ap reverse e ∙ reverse-append frames (frame ∷ [])) lead
 
-    pub turn_leads : (out' : Text) (jobs' : List Job) → Turns g nodes entries spots i p out out' jobs jobs' → Leads g nodes entries texts target out (Fill i p ∷ reverse jobs) → Goes out' jobs'
-    turn_leads out' jobs' (ended e same none) lead = (
-      subst (λ x. SpotsHold texts spots x) (sym e) hold,
-      subst (λ x. Leads g nodes entries texts target x (reverse jobs')) (sym e) (subst (λ x. Leads g nodes entries texts target out (reverse x)) (sym same)
-          (subst (λ x. Leads g nodes entries texts target x (reverse jobs)) (ap (λ x. out ++ x) (none texts) ∙ sym (append-none out)) lead)),
-    )
-    turn_leads out' jobs' (went e part at here puts) lead =
-        let w = part_wanted nodes e part texts in
-        let more = from g nodes entries texts i (p + 1) in
-        let split : out ++ from g nodes entries texts i p ≡ (out ++ w) ++ more = ap (λ x. out ++ x) (from_part i p e part at here) ∙ sym (append_assoc out w more) in
-        put_leads out' jobs' (part_wanted nodes e part) (IsKidOf e) (jobs ++ Fill i (p + 1) ∷ []) puts
-        (subst (λ x. Leads g nodes entries texts target (out ++ w) x) (sym (reverse-append jobs (Fill i (p + 1) ∷ [])))
-        (subst (λ x. Leads g nodes entries texts target x (reverse jobs)) split lead))
+      -- the frame of a template goes on
+      pub fill_leads : (i p : ℕ) → old ≡ frames ++ Fill i p ∷ [] → (out' : Text) (frames' : List Frame) (full : Bool) → full ≡ false → Fills b g nodes rs spans i p out out' frames frames' full
+          → SpansHold b texts spans out' × Leads b g nodes rs texts target out' (reverse frames')
+      fill_leads i p e out' frames' full not (filled_up q is over to) = absurd (not_both full is not)
+      fill_leads i p e out' frames' full not (ended q go same to none) =
+          let f = to texts are hold in
+          let all : f.more ≡ shown b (from g nodes rs texts i p) = append-none f.more ∙ ap (λ x. f.more ++ x) (sym (shown-none b) ∙ ap (shown b) (sym (none texts))) ∙ f.rest in
+          let now : out' ≡ out ++ shown b (from g nodes rs texts i p) = f.grown ∙ ap (λ x. out ++ x) all in (
+            subst (λ x. SpansHold b texts spans x) (sym now) (spans_grow b texts spans out (shown b (from g nodes rs texts i p)) hold),
+            subst (λ x. Leads b g nodes rs texts target x (reverse frames')) (sym now) (subst (λ x. Leads b g nodes rs texts target (out ++ shown b (from g nodes rs texts i p)) (reverse x)) (sym same) (first_of (Fill i p) e)),
+          )
+      fill_leads i p e out' frames' full not (left q kid r x part go order at here is there fragment wants new to) =
+          let f = to texts are hold in
+          let value = shown b (from g nodes rs texts kid 0) in
+          let rest = shown b (from g nodes rs texts i (q + 1)) in
+          let whole : from g nodes rs texts kid 0 ≡ text_at texts kid = from_first kid x there fragment in
+          let goes : value ++ rest ≡ shown b (from g nodes rs texts i q) =
+          sym (shown-append b (from g nodes rs texts kid 0) (from g nodes rs texts i (q + 1)))
+          ∙ ap (shown b) (ap (λ y. y ++ from g nodes rs texts i (q + 1)) (whole ∙ sym (wants texts)) ∙ sym (from_part g nodes rs texts i q r part at here)) in
+          let on : (out' ++ value) ++ rest ≡ out ++ shown b (from g nodes rs texts i p) =
+          append_assoc out' value rest ∙ (λ j. f.grown j ++ goes j) ∙ append_assoc out f.more (shown b (from g nodes rs texts i q)) ∙ ap (λ y. out ++ y) f.rest in
+          let turned : reverse frames' ≡ Fill kid 0 ∷ (Note kid (length out') ∷ (Fill i (q + 1) ∷ reverse frames)) =
+          ap reverse new ∙ reverse-append ((frames ++ Fill i (q + 1) ∷ []) ++ Note kid (length out') ∷ []) (Fill kid 0 ∷ [])
+          ∙ ap (λ y. Fill kid 0 ∷ y) (reverse-append (frames ++ Fill i (q + 1) ∷ []) (Note kid (length out') ∷ []) ∙ ap (λ y. Note kid (length out') ∷ y) (reverse-append frames (Fill i (q + 1) ∷ []))) in
+          let span : IsSpan b texts (out' ++ value) kid (length out') (length (out' ++ value)) =
+          record { order = omega (arith, length-append out' value); inside = omega arith; holds = range_end out' value ∙ ap (shown b) whole } in (
+            subst (λ y. SpansHold b texts spans y) (sym f.grown) (spans_grow b texts spans out f.more hold),
+            subst (λ y. Leads b g nodes rs texts target out' y) (sym turned) (span, subst (λ y. Leads b g nodes rs texts target y (reverse frames)) (sym on) (first_of (Fill i p) e)),
+          )
 
--- the turns of the loop
-module _ (g : Grammar) (nodes : List Node) (entries : List Booked) (texts : List Text) (target : Text) (spots : List (Option Spot)) (out : Text) (jobs old : List Job) where
-  abbrev pub Goes-on : List (Option Spot) → Text → List Job → Type 0
-  Goes-on spots' out' jobs' = SpotsHold texts spots' out' × Leads g nodes entries texts target out' (reverse jobs')
+      -- the sheet is full
+      pub fill_cuts : (i p : ℕ) → old ≡ frames ++ Fill i p ∷ [] → (out' : Text) (frames' : List Frame) (full : Bool) → full ≡ true → Fills b g nodes rs spans i p out out' frames frames' full → IsCut b out' target
+      fill_cuts i p e out' frames' full is (ended q not same to none) = absurd (not_both full is not)
+      fill_cuts i p e out' frames' full is (left q kid r x part not order at here of there fragment wants new to) = absurd (not_both full is not)
+      fill_cuts i p e out' frames' full is (filled_up q all over to) =
+          let f = to texts are hold in
+          let rest = shown b (from g nodes rs texts i q) in
+          let (more, front) = leads_front (reverse frames) (out ++ shown b (from g nodes rs texts i p)) (first_of (Fill i p) e) in
+          record {
+            more = rest ++ more;
+            front = sym (append_assoc out' rest more) ∙ ap (λ y. y ++ more) (ap (λ y. y ++ rest) f.grown ∙ append_assoc out f.more rest ∙ ap (λ y. out ++ y) f.rest) ∙ front;
+            over = over;
+          }
 
-  lead : (job : Job) → old ≡ jobs ++ job ∷ [] → Goes-on spots out old → Leads g nodes entries texts target out (job ∷ reverse jobs)
-  lead job e h = subst (λ x. Leads g nodes entries texts target out x) (ap reverse e ∙ reverse-append jobs (job ∷ [])) h.1
+      -- a note is left out, or taken
+      pub note_leads : (i start : ℕ) → old ≡ frames ++ Note i start ∷ [] → SpansHold b texts spans out × Leads b g nodes rs texts target out (reverse frames)
+      note_leads i start e = (hold, (first_of (Note i start) e).1)
 
-  pub fill_goes_on : AreTexts g nodes entries texts → (i p : ℕ) → old ≡ jobs ++ Fill i p ∷ [] → (out' : Text) (jobs' : List Job) → Turns g nodes entries spots i p out out' jobs jobs' → Goes-on spots out old → Goes-on spots out' jobs'
-  fill_goes_on are i p e out' jobs' turns h = turn_leads g nodes entries texts are target spots i p out jobs h.0 out' jobs' turns (lead (Fill i p) e h)
+      pub noted_leads : (i start : ℕ) (span : Span) → span ≡ record { start = start; end = length out } → old ≡ frames ++ Note i start ∷ []
+          → SpansHold b texts (slice_set spans i (Some span)) out × Leads b g nodes rs texts target out (reverse frames)
+      noted_leads i start span is e = let l = first_of (Note i start) e in (spans_noted b texts spans out i start span is l.0 hold, l.1)
 
-  pub note_goes_on : (i start : ℕ) → old ≡ jobs ++ Note i start ∷ [] → Goes-on spots out old → Goes-on spots out jobs
-  note_goes_on i start e h = (h.0, (lead (Note i start) e h).1)
+pub first_leads : (b : Bool) (g : Grammar) (nodes : List Node) (rs : List Reduced) (texts : List Text) (spans : List (Option Span)) (out : Text) (first : ℕ) (frames : List Frame) → frames ≡ Fill first 0 ∷ []
+    → SpansHold b texts spans out → SpansHold b texts spans out × Leads b g nodes rs texts (out ++ shown b (from g nodes rs texts first 0)) out (reverse frames)
+first_leads b g nodes rs texts spans out first frames e h = (h, subst (λ x. Leads b g nodes rs texts (out ++ shown b (from g nodes rs texts first 0)) out (reverse x)) (sym e) refl)
 
-  pub noted_goes_on : (i start : ℕ) (spot : Spot) → spot ≡ record { start = start; end = length out } → old ≡ jobs ++ Note i start ∷ [] → Goes-on spots out old → Goes-on (slice_set spots i (Some spot)) out jobs
-  noted_goes_on i start spot is e h = let l = lead (Note i start) e h in (spots_noted texts spots out i start spot is l.0 h.0, l.1)
-
-pub first_goes_on : (g : Grammar) (nodes : List Node) (entries : List Booked) (texts : List Text) (spots : List (Option Spot)) (out : Text) (first : ℕ) (jobs : List Job) → jobs ≡ Fill first 0 ∷ []
-    → SpotsHold texts spots out → SpotsHold texts spots out × Leads g nodes entries texts (out ++ from g nodes entries texts first 0) out (reverse jobs)
-first_goes_on g nodes entries texts spots out first jobs e h = (h, subst (λ x. Leads g nodes entries texts (out ++ from g nodes entries texts first 0) out (reverse x)) (sym e) refl)
-
-pub last_goes_on : (g : Grammar) (nodes : List Node) (entries : List Booked) (texts : List Text) (target : Text) (spots : List (Option Spot)) (out : Text) (jobs : List Job) → jobs ≡ []
-    → SpotsHold texts spots out × Leads g nodes entries texts target out (reverse jobs) → (out ≡ target) × SpotsHold texts spots out
-last_goes_on g nodes entries texts target spots out jobs e h = (subst (λ x. Leads g nodes entries texts target out (reverse x)) e h.1, h.0)
+pub last_leads : (b : Bool) (g : Grammar) (nodes : List Node) (rs : List Reduced) (texts : List Text) (target : Text) (spans : List (Option Span)) (out : Text) (frames : List Frame) → frames ≡ []
+    → SpansHold b texts spans out × Leads b g nodes rs texts target out (reverse frames) → (out ≡ target) × SpansHold b texts spans out
+last_leads b g nodes rs texts target spans out frames e h = (subst (λ x. Leads b g nodes rs texts target out (reverse x)) e h.1, h.0)
 
 pub nil_of_none : {A : Type 0} (xs : List A) → length xs ≡ 0 → xs ≡ []
 nil_of_none [] h = refl
 nil_of_none (x ∷ xs) h = cc
+
+-- the value of a fragment is appended
+pub value_ended : (b : Bool) (g : Grammar) (nodes : List Node) (rs : List Reduced) (texts : List Text) → AreTexts g nodes rs texts → (i : ℕ) (r : Reduced) → slice_get rs i ≡ Some r → r.own.kind ≡ Fragment → (spans : List (Option Span)) (out out' : Text)
+    (full : Bool) → IsDone full b texts spans out' (out ++ shown b (from g nodes rs texts i 0)) → IsEnded full b out' (out ++ shown b (text_at texts i))
+value_ended b g nodes rs texts are i r at fragment spans out out' true h = subst (λ x. IsCut b out' (out ++ shown b x)) (from_first g nodes rs texts are i r at fragment) h
+value_ended b g nodes rs texts are i r at fragment spans out out' false h = h.0 ∙ ap (λ x. out ++ shown b x) (from_first g nodes rs texts are i r at fragment)

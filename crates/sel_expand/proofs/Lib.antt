@@ -1,8 +1,8 @@
 pub mod Slotted
 pub mod Placing
 pub mod Emitting
-pub mod Sizing
-pub mod Recording
+pub mod Adding
+pub mod Sheets
 pub mod Leading
 pub mod KidValues
 pub mod Lines

@@ -1,6 +1,5 @@
 -- The numbers of the temporaries that a derivation names.
-use Rattle.std.proofs.Common.{◌≡◌, ℕ, zero, suc, ◌+◌, ◌≤◌, Bool, true, false, if◌then◌else◌, Option, Some, List, [], ◌∷◌, ◌++◌, refl, ap, sym, ◌∙◌, subst, length, length-append, map, slice_get, arith}
-use Rattle.std.specs.Prelude.{IfSome}
+use Rattle.std.proofs.Common.{◌≡◌, ℕ, zero, suc, ◌+◌, ◌≤◌, Bool, true, false, if◌then◌else◌, Some, List, [], ◌∷◌, ◌++◌, refl, ap, sym, ◌∙◌, length, length-append, map, slice_get, arith}
 use Rattle.std.specs.Fmt.{decimal}
 use Rattle.sel_grammar.specs.declared.emission.Emitted.TheVariants.{Byte, Temporary}
 use Rattle.sel_grammar.specs.declared.grammar.Attribute.{Attribute}
@@ -15,7 +14,7 @@ use Rattle.sel_forest.specs.declared.forest.Tree.{Tree}
 use Rattle.sel_forest.specs.Postorder.{IsTree}
 use Rattle.sel_expand.specs.Expanding.{longest_text, IsCovered, IsEmitted, IsDerivationBy}
 use Rattle.sel_expand.specs.Pieces.{AreNumbered}
-use Rattle.sel_expand.proofs.Sizing.{size-append}
+use Rattle.sel_expand.proofs.Sheets.{size-append}
 
 -- each temporary has a number from low to high
 abbrev Within : ℕ → ℕ → Text → Type 0
@@ -191,8 +190,3 @@ emitted_numbered g tree rules text (t, spells, small) covered emitted =
     let by : IsDerivationBy g tree rules t is.derivation = record { spelled = spells; derives = is.derives; listed = is.list_is } in
     let (same, long) = emitted t is.derivation by in
     expanded_numbered g is.derivation t text same long
-
-pub answer_numbered : (g : Grammar) (tree : Tree) (rules : List ℕ) (length : Option ℕ) (n : ℕ) (text text' : Text) → IsTree tree → IsCovered g tree rules → IfSome length (λ _. IsEmitted g tree rules text) → length ≡ Some n → text' ≡ text → AreNumbered text'
-answer_numbered g tree rules length n text text' is covered some e same =
-    let emitted : IsEmitted g tree rules text = subst (λ o. IfSome o (λ _. IsEmitted g tree rules text)) e some in
-    subst AreNumbered (sym same) (emitted_numbered g tree rules text is covered emitted)

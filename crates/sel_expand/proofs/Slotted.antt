@@ -3,9 +3,9 @@ use Rattle.std.proofs.Common.{◌≡◌, ℕ, zero, suc, ◌-◌, ◌≤◌, Opt
 use Rattle.std.specs.Prelude.{slice_range}
 use Rattle.std.proofs.lemmas.List.{take-append-le, drop-append-le, map-append}
 use Rattle.std.proofs.Math.Seq.{drop-append_seam, take-length}
-use Rattle.sel_expand.specs.declared.book.Entry.{Entry}
-use Rattle.sel_expand.specs.declared.book.Slot.{Slot}
-use Rattle.sel_expand.specs.Booked.{Booked, booked_slot, booked_slots, AreWithin, entry_of, kids_of}
+use Rattle.sel_expand.specs.declared.reductions.Reduction.{Reduction}
+use Rattle.sel_expand.specs.declared.reductions.Slot.{Slot}
+use Rattle.sel_expand.specs.Reductions.{Reduced, reduced_slot, reduced_slots, AreWithin, own_of, kids_of}
 
 -- pieces of a list that grows
 pub range_grow : {A : Type 0} (xs more : List A) (s e : ℕ) → s ≤ e → e ≤ length xs → slice_range (xs ++ more) s e ≡ slice_range xs s e
@@ -19,10 +19,10 @@ range_end xs more =
     let n : length (xs ++ more) - length xs ≡ length more = omega (arith, length-append xs more) in
     (λ j. take (n j) (drop-append_seam xs more j)) ∙ take-length more
 
-pub slots_grow : (kids more : List ℕ) (slots : List Slot) → AreWithin kids slots → booked_slots (kids ++ more) slots ≡ booked_slots kids slots
+pub slots_grow : (kids more : List ℕ) (slots : List Slot) → AreWithin kids slots → reduced_slots (kids ++ more) slots ≡ reduced_slots kids slots
 slots_grow kids more [] h = refl
 slots_grow kids more (s ∷ slots) h =
-    λ j. record { entry = s.entry; kids = range_grow kids more s.start s.end (h.0).0 (h.0).1 j } ∷ slots_grow kids more slots h.1 j
+    λ j. record { own = s.own; kids = range_grow kids more s.start s.end (h.0).0 (h.0).1 j } ∷ slots_grow kids more slots h.1 j
 
 pub within_grow : (kids more : List ℕ) (slots : List Slot) → AreWithin kids slots → AreWithin (kids ++ more) slots
 within_grow kids more [] h = tt
@@ -36,23 +36,23 @@ pub still_within : (old kids new : List ℕ) (slots : List Slot) → AreWithin o
 still_within old kids new slots within grown = subst (λ x. AreWithin x slots) (sym grown) (within_grow old kids slots within)
 
 -- a slot more, whose kids are put behind the others
-module _ (old kids new : List ℕ) (slots after : List Slot) (entry : Entry) (start end : ℕ) (within : AreWithin old slots) (grown : new ≡ old ++ kids) (from : start ≡ length old) (to : end ≡ length new)
-    (pushed : after ≡ slots ++ record { entry = entry; start = start; end = end } ∷ []) where
+module _ (old kids new : List ℕ) (slots after : List Slot) (own : Reduction) (start end : ℕ) (within : AreWithin old slots) (grown : new ≡ old ++ kids) (from : start ≡ length old) (to : end ≡ length new)
+    (pushed : after ≡ slots ++ record { own = own; start = start; end = end } ∷ []) where
   pub pushed_within : AreWithin new after
-  pushed_within = subst (λ x. AreWithin new x) (sym pushed) (within_push new slots (record { entry = entry; start = start; end = end }) (still_within old kids new slots within grown) (omega (arith, ap length grown, length-append old kids)) (omega arith))
+  pushed_within = subst (λ x. AreWithin new x) (sym pushed) (within_push new slots (record { own = own; start = start; end = end }) (still_within old kids new slots within grown) (omega (arith, ap length grown, length-append old kids)) (omega arith))
 
-  pub pushed_booked : booked_slots new after ≡ booked_slots old slots ++ record { entry = entry; kids = kids } ∷ []
-  pushed_booked =
-      ap (booked_slots new) pushed ∙ map-append (booked_slot new) slots (record { entry = entry; start = start; end = end } ∷ [])
-      ∙ (λ j. booked_slots (grown j) slots ++ record { entry = entry; kids = slice_range (grown j) (from j) ((to ∙ ap length grown) j) } ∷ [])
-      ∙ (λ j. slots_grow old kids slots within j ++ record { entry = entry; kids = range_end old kids j } ∷ [])
+  pub pushed_reduced : reduced_slots new after ≡ reduced_slots old slots ++ record { own = own; kids = kids } ∷ []
+  pushed_reduced =
+      ap (reduced_slots new) pushed ∙ map-append (reduced_slot new) slots (record { own = own; start = start; end = end } ∷ [])
+      ∙ (λ j. reduced_slots (grown j) slots ++ record { own = own; kids = slice_range (grown j) (from j) ((to ∙ ap length grown) j) } ∷ [])
+      ∙ (λ j. slots_grow old kids slots within j ++ record { own = own; kids = range_end old kids j } ∷ [])
 
-pub slot_at : (kids : List ℕ) (slots : List Slot) (at : ℕ) (s : Slot) → slice_get slots at ≡ Some s → slice_get (booked_slots kids slots) at ≡ Some (booked_slot kids s)
+pub slot_at : (kids : List ℕ) (slots : List Slot) (at : ℕ) (s : Slot) → slice_get slots at ≡ Some s → slice_get (reduced_slots kids slots) at ≡ Some (reduced_slot kids s)
 slot_at kids [] at s h = cc
-slot_at kids (x ∷ slots) zero s h = let e : x ≡ s = cc in ap (λ (y : Slot). Some (booked_slot kids y)) e
+slot_at kids (x ∷ slots) zero s h = let e : x ≡ s = cc in ap (λ (y : Slot). Some (reduced_slot kids y)) e
 slot_at kids (x ∷ slots) (suc at) s h = slot_at kids slots at s h
 
-pub no_slot : (kids : List ℕ) (slots : List Slot) (at : ℕ) → slice_get slots at ≡ None → slice_get (booked_slots kids slots) at ≡ None
+pub no_slot : (kids : List ℕ) (slots : List Slot) (at : ℕ) → slice_get slots at ≡ None → slice_get (reduced_slots kids slots) at ≡ None
 no_slot kids [] at h = refl
 no_slot kids (x ∷ slots) zero h = cc
 no_slot kids (x ∷ slots) (suc at) h = no_slot kids slots at h
@@ -62,10 +62,10 @@ within_at kids [] at s w h = cc
 within_at kids (x ∷ slots) zero s w h = let e : x ≡ s = cc in subst (λ (y : Slot). (y.start ≤ y.end) × (y.end ≤ length kids)) e w.0
 within_at kids (x ∷ slots) (suc at) s w h = within_at kids slots at s w.1 h
 
-pub entry_kids : (o : Option Booked) (entry : Entry) → Some entry ≡ entry_of o → o ≡ Some (record { entry = entry; kids = kids_of o })
-entry_kids None entry h = cc
-entry_kids (Some e) entry h = let q : entry ≡ e.entry = cc in λ j. Some (record { entry = sym q j; kids = e.kids })
+pub own_kids : (o : Option Reduced) (own : Reduction) → Some own ≡ own_of o → o ≡ Some (record { own = own; kids = kids_of o })
+own_kids None own h = cc
+own_kids (Some e) own h = let q : own ≡ e.own = cc in λ j. Some (record { own = sym q j; kids = e.kids })
 
-pub no_entry_kids : (o : Option Booked) → None ≡ entry_of o → o ≡ None
-no_entry_kids None h = refl
-no_entry_kids (Some e) h = cc
+pub no_own_kids : (o : Option Reduced) → None ≡ own_of o → o ≡ None
+no_own_kids None h = refl
+no_own_kids (Some e) h = cc

@@ -1,8 +1,8 @@
-pub mod Booked
+pub mod Reductions
 pub mod Steps
 pub mod Running
-pub mod Sizes
-pub mod Books
-pub mod Printing
 pub mod Expanding
+pub mod Values
+pub mod Sheets
+pub mod Printing
 pub mod Pieces

@@ -1,110 +1,135 @@
--- Printing an entry's template, job by job. A value that was printed before is copied.
-use Rattle.std.specs.Prelude.{◌≡◌, ℕ, ◌+◌, ◌-◌, ◌*◌, ◌^◌, ◌≤◌, Bool, false, Option, Some, None, List, [], ◌∷◌, ◌++◌, length, drop, slice_get, slice_range, map}
+-- Printing a reduction's template, frame by frame. A value that was printed before is copied.
+use Rattle.std.specs.Prelude.{◌≡◌, ℕ, ◌+◌, ◌-◌, ◌*◌, ◌^◌, ◌≤◌, Bool, true, false, Option, Some, None, List, [], ◌∷◌, ◌++◌, length, drop, slice_get, slice_range, map}
 use Rattle.std.specs.List.{sum_by}
 use Rattle.sel_grammar.specs.declared.grammar.Grammar.{Grammar}
 use Rattle.sel_grammar.specs.declared.grammar.Part.{Part}
-use Rattle.sel_grammar.specs.Expansions.{Text, part_text, filled, is_instruction}
+use Rattle.sel_grammar.specs.Expansions.{Text, part_text, filled}
 use Rattle.sel_forest.specs.declared.forest.Node.{Node}
-use Rattle.sel_expand.specs.Booked.{Booked, entry_of}
-use Rattle.sel_expand.specs.declared.book.Entry.{Entry}
-use Rattle.sel_expand.specs.declared.printing.Spot.{Spot}
-use Rattle.sel_expand.specs.declared.printing.Job.{Job}
-use Rattle.sel_expand.specs.declared.printing.Job.TheVariants.{Fill, Note}
+use Rattle.sel_expand.specs.declared.printing.Frame.{Frame}
+use Rattle.sel_expand.specs.declared.printing.Frame.TheVariants.{Fill, Note}
+use Rattle.sel_expand.specs.declared.reductions.Reduction.{Reduction}
+use Rattle.sel_expand.specs.declared.sheet.Span.{Span}
+use Rattle.sel_expand.specs.declared.templates.Kind.TheVariants.{Named, Unnamed, Fragment}
+use Rattle.sel_expand.specs.declared.templates.Kind.{Kind}
+use Rattle.sel_expand.specs.Reductions.{Reduced, own_of}
 use Rattle.sel_expand.specs.Running.{attribute_at, parts_at}
-use Rattle.sel_expand.specs.Books.{text_at, line_of, lines_of, AreTexts}
+use Rattle.sel_expand.specs.Sheets.{shown, IsOver, IsCut, IsEnded, IsWhole}
+use Rattle.sel_expand.specs.Values.{text_at, line_of, lines_of, AreTexts}
 
--- the entry with these kids
-abbrev pub with_kids : Entry → List ℕ → Booked
-with_kids entry kids = record { entry = entry; kids = kids }
+-- the reduction with these kids
+abbrev pub with_kids : Reduction → List ℕ → Reduced
+with_kids own kids = record { own = own; kids = kids }
 
 abbrev pub flat : {A : Type 0} → Option (Option A) → Option A
 flat None = None
 flat (Some o) = o
 
--- the spot holds the value of the entry i
-pub record IsSpot (texts : List Text) (out : Text) (i start end : ℕ) : Type 0 where
+-- the span holds the value of the reduction i
+pub record IsSpan (apart : Bool) (texts : List Text) (out : Text) (i start end : ℕ) : Type 0 where
   pub order : start ≤ end
   pub inside : end ≤ length out
-  pub holds : slice_range out start end ≡ text_at texts i
+  pub holds : slice_range out start end ≡ shown apart (text_at texts i)
 
-abbrev pub SpotsHold : List Text → List (Option Spot) → Text → Type 0
-SpotsHold texts spots out = (i : ℕ) (spot : Spot) → flat (slice_get spots i) ≡ Some spot → IsSpot texts out i spot.start spot.end
+abbrev pub SpansHold : Bool → List Text → List (Option Span) → Text → Type 0
+SpansHold apart texts spans out = (i : ℕ) (span : Span) → flat (slice_get spans i) ≡ Some span → IsSpan apart texts out i span.start span.end
 
--- what the template of an entry prints from a part on
-abbrev pub rest_of : Grammar → List Node → List Text → Option Booked → ℕ → Text
+-- what the template of a reduction prints from a part on
+abbrev pub rest_of : Grammar → List Node → List Text → Option Reduced → ℕ → Text
 rest_of g nodes texts None p = []
-rest_of g nodes texts (Some e) p = filled (map (text_at texts) e.kids) (attribute_at nodes e.entry.at) e.entry.next (drop p (parts_at g e.entry.rule))
+rest_of g nodes texts (Some r) p = filled (map (text_at texts) r.kids) (attribute_at nodes r.own.at) r.own.next (drop p (parts_at g r.own.rule))
 
-abbrev pub from : Grammar → List Node → List Booked → List Text → ℕ → ℕ → Text
-from g nodes entries texts i p = rest_of g nodes texts (slice_get entries i) p
+abbrev pub from : Grammar → List Node → List Reduced → List Text → ℕ → ℕ → Text
+from g nodes rs texts i p = rest_of g nodes texts (slice_get rs i) p
 
--- when the jobs are done, first to last, the text is the target, and each note is true when it is taken
-abbrev pub Leads : Grammar → List Node → List Booked → List Text → Text → Text → List Job → Type 0
-Leads g nodes entries texts target out [] = out ≡ target
-Leads g nodes entries texts target out (Fill i p ∷ jobs) = Leads g nodes entries texts target (out ++ from g nodes entries texts i p) jobs
-Leads g nodes entries texts target out (Note i start ∷ jobs) = IsSpot texts out i start (length out) × Leads g nodes entries texts target out jobs
+-- when the frames are done, first to last, the target is shown, and each note is true when it is taken
+abbrev pub Leads : Bool → Grammar → List Node → List Reduced → List Text → Text → Text → List Frame → Type 0
+Leads apart g nodes rs texts target out [] = out ≡ target
+Leads apart g nodes rs texts target out (Fill i p ∷ frames) = Leads apart g nodes rs texts target (out ++ shown apart (from g nodes rs texts i p)) frames
+Leads apart g nodes rs texts target out (Note i start ∷ frames) = IsSpan apart texts out i start (length out) × Leads apart g nodes rs texts target out frames
 
-abbrev pub IsKidOf : Booked → ℕ → Type 0
-IsKidOf e j = (m : ℕ) × (slice_get e.kids m ≡ Some j)
+abbrev pub IsKidOf : Reduced → ℕ → Type 0
+IsKidOf r j = (m : ℕ) × (slice_get r.kids m ≡ Some j)
 
 -- a text was printed, or it is a kid's value that is left to be printed
-pub data Puts (g : Grammar) (nodes : List Node) (entries : List Booked) (spots : List (Option Spot)) (out out' : Text) (jobs jobs' : List Job) (wanted : List Text → Text) (IsKid : ℕ → Type 0) : Type 0 where
-  printed : (more : Text) → out' ≡ out ++ more → jobs' ≡ jobs → ((texts : List Text) → AreTexts g nodes entries texts → SpotsHold texts spots out → more ≡ wanted texts) → Puts g nodes entries spots out out' jobs jobs' wanted IsKid
-  later : (kid : ℕ) (e : Booked) → IsKid kid → slice_get entries kid ≡ Some e → is_instruction (parts_at g e.entry.rule) ≡ false → out' ≡ out → jobs' ≡ (jobs ++ Note kid (length out) ∷ []) ++ Fill kid 0 ∷ []
-      → ((texts : List Text) → wanted texts ≡ text_at texts kid) → Puts g nodes entries spots out out' jobs jobs' wanted IsKid
+pub data Puts (apart : Bool) (g : Grammar) (nodes : List Node) (rs : List Reduced) (spans : List (Option Span)) (out out' : Text) (later : Option ℕ) (wanted : List Text → Text) (IsKid : ℕ → Type 0) : Type 0 where
+  printed : later ≡ None → ((texts : List Text) → AreTexts g nodes rs texts → SpansHold apart texts spans out → out' ≡ out ++ shown apart (wanted texts)) → Puts apart g nodes rs spans out out' later wanted IsKid
+  postponed : (kid : ℕ) (r : Reduced) → later ≡ Some kid → IsKid kid → slice_get rs kid ≡ Some r → r.own.kind ≡ Fragment → out' ≡ out → ((texts : List Text) → wanted texts ≡ text_at texts kid)
+      → Puts apart g nodes rs spans out out' later wanted IsKid
 
-abbrev pub part_wanted : List Node → Booked → Part → List Text → Text
-part_wanted nodes e part texts = part_text (map (text_at texts) e.kids) (attribute_at nodes e.entry.at) e.entry.next part
+abbrev pub part_wanted : List Node → Reduced → Part → List Text → Text
+part_wanted nodes r part texts = part_text (map (text_at texts) r.kids) (attribute_at nodes r.own.at) r.own.next part
 
--- a template is at its end, or goes on by one part
-pub data Turns (g : Grammar) (nodes : List Node) (entries : List Booked) (spots : List (Option Spot)) (i p : ℕ) (out out' : Text) (jobs jobs' : List Job) : Type 0 where
-  ended : out' ≡ out → jobs' ≡ jobs → ((texts : List Text) → from g nodes entries texts i p ≡ []) → Turns g nodes entries spots i p out out' jobs jobs'
-  went : (e : Booked) (part : Part) → slice_get entries i ≡ Some e → slice_get (parts_at g e.entry.rule) p ≡ Some part
-      → Puts g nodes entries spots out out' (jobs ++ Fill i (p + 1) ∷ []) jobs' (part_wanted nodes e part) (IsKidOf e) → Turns g nodes entries spots i p out out' jobs jobs'
+-- what the template prints from the part p on is printed up to the part q
+pub record IsFilledTo (apart : Bool) (g : Grammar) (nodes : List Node) (rs : List Reduced) (texts : List Text) (i p q : ℕ) (out out' : Text) : Type 0 where
+  pub more : Text
+  pub grown : out' ≡ out ++ more
+  pub rest : more ++ shown apart (from g nodes rs texts i q) ≡ shown apart (from g nodes rs texts i p)
 
-abbrev pub HasTexts : Grammar → List Node → List Booked → Type 0
-HasTexts g nodes entries = (texts : List Text) × AreTexts g nodes entries texts
+-- the same, whatever the values are
+abbrev pub FillsTo : Bool → Grammar → List Node → List Reduced → List (Option Span) → ℕ → ℕ → ℕ → Text → Text → Type 0
+FillsTo apart g nodes rs spans i p q out out' = (texts : List Text) → AreTexts g nodes rs texts → SpansHold apart texts spans out → IsFilledTo apart g nodes rs texts i p q out out'
 
--- the template is appended, and the spots hold
-abbrev pub IsPrinted : Grammar → List Node → List Booked → ℕ → List (Option Spot) → List (Option Spot) → Text → Text → Type 0
-IsPrinted g nodes entries first spots spots' out out' =
-    (texts : List Text) → AreTexts g nodes entries texts → SpotsHold texts spots out → (out' ≡ out ++ from g nodes entries texts first 0) × SpotsHold texts spots' out'
+-- a template is printed to its end, or up to the value of a kid, which is left to be printed, or until the sheet is full
+pub data Fills (apart : Bool) (g : Grammar) (nodes : List Node) (rs : List Reduced) (spans : List (Option Span)) (i p : ℕ) (out out' : Text) (frames frames' : List Frame) (full : Bool) : Type 0 where
+  ended : (q : ℕ) → full ≡ false → frames' ≡ frames → FillsTo apart g nodes rs spans i p q out out' → ((texts : List Text) → from g nodes rs texts i q ≡ []) → Fills apart g nodes rs spans i p out out' frames frames' full
+  left : (q kid : ℕ) (r x : Reduced) (part : Part) → full ≡ false → p ≤ q → slice_get rs i ≡ Some r → slice_get (parts_at g r.own.rule) q ≡ Some part → IsKidOf r kid → slice_get rs kid ≡ Some x → x.own.kind ≡ Fragment
+      → ((texts : List Text) → part_wanted nodes r part texts ≡ text_at texts kid) → frames' ≡ ((frames ++ Fill i (q + 1) ∷ []) ++ Note kid (length out') ∷ []) ++ Fill kid 0 ∷ []
+      → FillsTo apart g nodes rs spans i p q out out' → Fills apart g nodes rs spans i p out out' frames frames' full
+  filled_up : (q : ℕ) → full ≡ true → IsOver apart out' → FillsTo apart g nodes rs spans i p q out out' → Fills apart g nodes rs spans i p out out' frames frames' full
 
--- a measure of what is left to do: a kid's entry stands before its parent's
-abbrev pub base : Grammar → List Booked → ℕ
-base g entries = 3 + sum_by (λ (e : Booked). length (parts_at g e.entry.rule)) entries
+abbrev pub HasTexts : Grammar → List Node → List Reduced → Type 0
+HasTexts g nodes rs = (texts : List Text) × AreTexts g nodes rs texts
 
-abbrev pub parts_or_none : Grammar → Option Booked → List Part
+-- the sheet is full, or it shows the target and the spans hold
+abbrev pub IsDone : Bool → Bool → List Text → List (Option Span) → Text → Text → Type 0
+IsDone true apart texts spans out target = IsCut apart out target
+IsDone false apart texts spans out target = (out ≡ target) × SpansHold apart texts spans out
+
+-- the template is appended
+abbrev pub IsPrinted : Bool → Grammar → List Node → List Reduced → ℕ → List (Option Span) → List (Option Span) → Text → Text → Bool → Type 0
+IsPrinted apart g nodes rs first spans spans' out out' full =
+    (texts : List Text) → AreTexts g nodes rs texts → SpansHold apart texts spans out → IsDone full apart texts spans' out' (out ++ shown apart (from g nodes rs texts first 0))
+
+-- a measure of what is left to do: a kid's reduction stands before its parent's
+abbrev pub base : Grammar → List Reduced → ℕ
+base g rs = 3 + sum_by (λ (r : Reduced). length (parts_at g r.own.rule)) rs
+
+abbrev pub parts_or_none : Grammar → Option Reduced → List Part
 parts_or_none g None = []
-parts_or_none g (Some e) = parts_at g e.entry.rule
+parts_or_none g (Some r) = parts_at g r.own.rule
 
-abbrev pub weight : Grammar → List Booked → Job → ℕ
-weight g entries (Fill i p) = base g entries ^ i * (1 + (length (parts_or_none g (slice_get entries i)) - p))
-weight g entries (Note i start) = 1
+abbrev pub weight : Grammar → List Reduced → Frame → ℕ
+weight g rs (Fill i p) = base g rs ^ i * (1 + (length (parts_or_none g (slice_get rs i)) - p))
+weight g rs (Note i start) = 1
 
-abbrev pub work : Grammar → List Booked → List Job → ℕ
-work g entries jobs = sum_by (weight g entries) jobs
+abbrev pub work : Grammar → List Reduced → List Frame → ℕ
+work g rs frames = sum_by (weight g rs) frames
 
--- the entry's value is appended
-abbrev pub IsValuePrinted : Grammar → List Node → List Booked → ℕ → List (Option Spot) → Text → Text → Type 0
-IsValuePrinted g nodes entries i spots out out' = (texts : List Text) → AreTexts g nodes entries texts → SpotsHold texts spots out → out' ≡ out ++ text_at texts i
+-- the reduction's value is appended
+abbrev pub IsValuePrinted : Bool → Grammar → List Node → List Reduced → ℕ → List (Option Span) → Text → Text → Bool → Type 0
+IsValuePrinted apart g nodes rs i spans out out' full = (texts : List Text) → AreTexts g nodes rs texts → SpansHold apart texts spans out → IsEnded full apart out' (out ++ shown apart (text_at texts i))
 
--- all lines, and then the entry's value
-abbrev pub AreAllPrinted : Grammar → List Node → List Booked → ℕ → Text → Type 0
-AreAllPrinted g nodes entries i out = (texts : List Text) → AreTexts g nodes entries texts → out ≡ lines_of g nodes texts entries ++ text_at texts i
+-- all lines, and then the reduction's value
+abbrev pub AreAllPrinted : Bool → Grammar → List Node → List Reduced → ℕ → Text → Bool → Type 0
+AreAllPrinted apart g nodes rs i out full = (texts : List Text) → AreTexts g nodes rs texts → IsWhole full apart out (shown apart (lines_of g nodes texts rs ++ text_at texts i))
 
-abbrev pub is_line_entry : Grammar → Option Entry → Bool
-is_line_entry g None = false
-is_line_entry g (Some e) = is_instruction (parts_at g e.rule)
+abbrev pub is_line_kind : Kind → Bool
+is_line_kind Named = true
+is_line_kind Unnamed = true
+is_line_kind Fragment = false
 
-abbrev pub is_line : Grammar → Option Booked → Bool
-is_line g o = is_line_entry g (entry_of o)
+abbrev pub is_line_own : Option Reduction → Bool
+is_line_own None = false
+is_line_own (Some own) = is_line_kind own.kind
 
-abbrev pub line_at : Grammar → List Node → List Text → Option Booked → Text
+abbrev pub is_line : Option Reduced → Bool
+is_line o = is_line_own (own_of o)
+
+abbrev pub line_at : Grammar → List Node → List Text → Option Reduced → Text
 line_at g nodes texts None = []
-line_at g nodes texts (Some e) = line_of g nodes texts e
+line_at g nodes texts (Some r) = line_of g nodes texts r
 
--- the entry's line is appended, and the spots hold
-abbrev pub IsLinePrinted : Grammar → List Node → List Booked → ℕ → List (Option Spot) → List (Option Spot) → Text → Text → Type 0
-IsLinePrinted g nodes entries i spots spots' out out' =
-    (texts : List Text) → AreTexts g nodes entries texts → SpotsHold texts spots out → (out' ≡ out ++ line_at g nodes texts (slice_get entries i)) × SpotsHold texts spots' out'
+-- the reduction's line is appended
+abbrev pub IsLinePrinted : Bool → Grammar → List Node → List Reduced → ℕ → List (Option Span) → List (Option Span) → Text → Text → Bool → Type 0
+IsLinePrinted apart g nodes rs i spans spans' out out' full =
+    (texts : List Text) → AreTexts g nodes rs texts → SpansHold apart texts spans out → IsDone full apart texts spans' out' (out ++ shown apart (line_at g nodes texts (slice_get rs i)))

@@ -1,20 +1,20 @@
-ghost use Rattle.std.specs.Prelude.{◌≡◌, ◌++◌, ℕ, List, true, IfOk, IfSome, IsNone, None, Option, Some};
-ghost use Rattle.sel_grammar.specs.Expansions.{emitted_bytes, text_bytes};
+ghost use Rattle.std.specs.Prelude.{◌≡◌, ◌++◌, ℕ, List, IfOk, IfSome, IsNone, None, Some};
+ghost use Rattle.sel_grammar.specs.Expansions.{Text};
 ghost use Rattle.sel_forest.specs.Postorder.{IsTree};
-ghost use Rattle.sel_expand.specs.Printing.{HasTexts, AreAllPrinted};
+ghost use Rattle.sel_expand.specs.Values.{IsReduced, AreTexts, text_at, lines_of};
+ghost use Rattle.sel_expand.specs.Printing.{HasTexts};
 ghost use Rattle.sel_expand.specs.Expanding.{IsCovered, IsText, IsTooLong, IsEmitted};
 ghost use Rattle.sel_expand.specs.Pieces.{pieces_text, AreNumbered};
 ghost use Rattle.sel_expand.specs.declared.cutting.Piece.{Piece};
 
-use crate::book::Book;
-use crate::booking::book_all;
 use crate::cutting::{Piece, cut};
+use crate::listing::list_all;
 use crate::places::{Step, Task, place_all};
-use crate::printing::{Job, Spot, print_line, print_value};
-use crate::sizes::length_at;
-use itoa::Buffer;
+use crate::printing::{Frame, print_all};
+use crate::reductions::Reductions;
+use crate::sheet::Span;
 use sel_base::{List, NoMemory};
-use sel_forest::{Cover, Goal, Node, Tree};
+use sel_forest::{Cover, Goal, Tree};
 use sel_grammar::{Emitted, Grammar};
 use std::alloc::Global;
 
@@ -28,56 +28,6 @@ pub enum Expansion {
     TooLong,
 }
 
-/// All lines, and then the value of one entry.
-fn print_all(
-    grammar: &Grammar,
-    nodes: &[Node],
-    book: &Book,
-    last: usize,
-    spots: &mut Vec<Option<Spot>>,
-    jobs: &mut Vec<Job>,
-    out: &mut Vec<Emitted>,
-) -> Result<(), NoMemory>
-    requires { HasTexts grammar.now nodes.now book.now }
-    ensures { IfOk result (λ _. AreAllPrinted grammar.now nodes.now book.now last out.new.items) }
-{
-    out.clear();
-    spots.clear();
-    spots.resize(book.len(), None)?;
-    'entries: for at in 0..book.len() {
-        print_line(grammar, nodes, book, at, spots, jobs, out)?;
-    }
-    print_value(grammar, nodes, book, last, spots, jobs, out)
-}
-
-fn put_emitted(emitted: Emitted, bytes: &mut Vec<u8>) -> Result<(), NoMemory>
-    ensures { IfOk result (λ _. bytes.new.items ≡ bytes.old.items ++ emitted_bytes emitted) }
-{
-    match emitted {
-        Emitted::Byte(byte) => {
-            bytes.push(byte)?;
-            Ok(())
-        }
-        Emitted::Temporary(number) => {
-            let mut buffer = Buffer::new();
-            bytes.push(b't')?;
-            bytes.extend_from_slice(buffer.format(number).as_bytes())?;
-            Ok(())
-        }
-    }
-}
-
-/// The bytes of a text, which has this many.
-fn flattened(alloc: Global, text: &[Emitted], length: usize) -> Result<List<u8>, NoMemory>
-    ensures { IfOk result (λ bytes. bytes ≡ text_bytes text.now) }
-{
-    let mut bytes = Vec::with_capacity(alloc, length)?;
-    'text: for emitted in text {
-        put_emitted(*emitted, &mut bytes)?;
-    }
-    Ok(List::from_vec(bytes))
-}
-
 /// Room to expand covers in, which is kept from tree to tree, and also after want of memory. It holds
 /// nothing that another text rests on: temporaries begin at `t1` in each.
 #[derive(Debug, Drop)]
@@ -85,10 +35,11 @@ pub struct Expander {
     goals: Vec<Goal>,
     tasks: Vec<Task>,
     steps: Vec<Step>,
-    book: Book,
+    reductions: Reductions,
     left: Vec<usize>,
-    spots: Vec<Option<Spot>>,
-    jobs: Vec<Job>,
+    spans: Vec<Option<Span>>,
+    frames: Vec<Frame>,
+    bytes: Vec<u8>,
     text: Vec<Emitted>,
 }
 
@@ -99,15 +50,48 @@ impl Expander {
             goals: Vec::new(alloc),
             tasks: Vec::new(alloc),
             steps: Vec::new(alloc),
-            book: Book::new(alloc),
+            reductions: Reductions::new(alloc),
             left: Vec::new(alloc),
-            spots: Vec::new(alloc),
-            jobs: Vec::new(alloc),
+            spans: Vec::new(alloc),
+            frames: Vec::new(alloc),
+            bytes: Vec::new(alloc),
             text: Vec::new(alloc),
         }
     }
 
-    /// Makes the text of the cover, and tells how many bytes it has, or None where these are too many.
+    /// Lists the reductions of the cover's derivation, and tells which one is the whole's.
+    fn reduce(&mut self, grammar: &Grammar, tree: &Tree, cover: &Cover) -> Result<usize, NoMemory>
+        requires tree { IsTree tree.now }
+        requires covered { IsCovered grammar.now tree.now cover.now.rules }
+        ensures { IfOk result (IsReduced grammar.now tree.now cover.now.rules self.new.reductions) }
+    {
+        let root = Goal {
+            at: tree.nodes.len() - 1,
+            nonterminal: grammar.start,
+        };
+        place_all(
+            grammar,
+            tree.nodes.as_slice(),
+            root,
+            cover.rules.as_slice(),
+            &mut self.goals,
+            &mut self.tasks,
+            &mut self.steps,
+        )?;
+        list_all(
+            grammar,
+            self.steps.as_slice(),
+            &mut self.reductions,
+            &mut self.left,
+        )?;
+        match self.left.first().copied() {
+            Some(last) => Ok(last),
+            None => unreachable!(),
+        }
+    }
+
+    /// Makes the text of the cover, and tells which reduction is the whole's, or None where the text has
+    /// too many bytes.
     fn emit(
         &mut self,
         grammar: &Grammar,
@@ -116,47 +100,46 @@ impl Expander {
     ) -> Result<Option<usize>, NoMemory>
         requires tree { IsTree tree.now }
         requires covered { IsCovered grammar.now tree.now cover.now.rules }
-        ensures text { IfOk result (λ length. IfSome length (λ _. IsEmitted grammar.now tree.now cover.now.rules self.new.text.items)) }
-        ensures too_long { IfOk result (λ length. IsNone length → IsTooLong grammar.now tree.now cover.now.rules) }
+        ensures reduced { IfOk result (λ last. IfSome last (IsReduced grammar.now tree.now cover.now.rules self.new.reductions)) }
+        ensures text { IfOk result (λ last. IfSome last (λ _. IsText grammar.now tree.now cover.now.rules self.new.bytes.items)) }
+        ensures too_long { IfOk result (λ last. IsNone last → IsTooLong grammar.now tree.now cover.now.rules) }
     {
-        let nodes = tree.nodes.as_slice();
-        let root = Goal {
-            at: nodes.len() - 1,
-            nonterminal: grammar.start,
-        };
-        place_all(
+        let last = self.reduce(grammar, tree, cover)?;
+        self.bytes.clear();
+        let too_long = print_all(
             grammar,
-            nodes,
-            root,
-            cover.rules.as_slice(),
-            &mut self.goals,
-            &mut self.tasks,
-            &mut self.steps,
+            tree.nodes.as_slice(),
+            &self.reductions,
+            last,
+            &mut self.spans,
+            &mut self.frames,
+            &mut self.bytes,
         )?;
-        let lines = book_all(
-            grammar,
-            nodes,
-            self.steps.as_slice(),
-            &mut self.book,
-            &mut self.left,
-        )?;
-        let Some(last) = self.left.first().copied() else {
-            unreachable!()
-        };
-        let length = lines.saturating_add(length_at(&self.book, last));
-        if length > LONGEST_TEXT {
+        if too_long {
             return Ok(None);
         }
-        print_all(
+        Ok(Some(last))
+    }
+
+    /// Makes the text of the cover once more, with its temporaries apart. It isn't too long.
+    fn emit_apart(&mut self, grammar: &Grammar, tree: &Tree, last: usize) -> Result<(), NoMemory>
+        requires texts { HasTexts grammar.now tree.now.nodes self.old.reductions }
+        ensures { IfOk result (λ _. (texts : List Text) → AreTexts grammar.now tree.now.nodes self.old.reductions texts → self.new.text.items ≡ lines_of grammar.now tree.now.nodes texts self.old.reductions ++ text_at texts last) }
+    {
+        self.text.clear();
+        let too_long = print_all(
             grammar,
-            nodes,
-            &self.book,
+            tree.nodes.as_slice(),
+            &self.reductions,
             last,
-            &mut self.spots,
-            &mut self.jobs,
+            &mut self.spans,
+            &mut self.frames,
             &mut self.text,
         )?;
-        Ok(Some(length as usize))
+        if too_long {
+            unreachable!()
+        }
+        Ok(())
     }
 
     /// As the function `expand`, in the room of the expander.
@@ -173,9 +156,9 @@ impl Expander {
         ensures too_long { IfOk result (λ expansion. expansion ≡ Expansion.TooLong → IsTooLong grammar.now tree.now cover.now.rules) }
     {
         match self.emit(grammar, tree, cover)? {
-            Some(length) => {
-                let bytes = flattened(alloc, self.text.as_slice(), length)?;
-                Ok(Expansion::Text(bytes))
+            Some(_) => {
+                let bytes = self.bytes.as_slice().to_vec(alloc)?;
+                Ok(Expansion::Text(List::from_vec(bytes)))
             }
             None => Ok(Expansion::TooLong),
         }
@@ -196,7 +179,8 @@ impl Expander {
         ensures none { IfOk result (λ answer. answer ≡ None → IsTooLong grammar.now tree.now cover.now.rules) }
     {
         match self.emit(grammar, tree, cover)? {
-            Some(_) => {
+            Some(last) => {
+                self.emit_apart(grammar, tree, last)?;
                 let pieces = cut(alloc, self.text.as_slice())?;
                 Ok(Some(pieces))
             }
@@ -219,7 +203,7 @@ impl Expander {
 ///
 /// It takes time for the parts of each rule's template and for the bytes of the text: a value is
 /// made where it is first printed and copied from there, and one that isn't printed is never made.
-/// Lengths come first, so a text that is too long takes no memory for its bytes.
+/// A text that is too long is given up at the first part behind its `LONGEST_TEXT` bytes.
 pub fn expand(
     alloc: Global,
     grammar: &Grammar,

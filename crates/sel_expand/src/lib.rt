@@ -1,13 +1,13 @@
 //! The text of a cover, by the templates of its rules.
 #![tactic(auto)]
 
-mod book;
-mod booking;
 mod cutting;
 mod expansion;
+mod listing;
 mod places;
 mod printing;
-mod sizes;
+mod reductions;
+mod sheet;
 mod templates;
 
 pub use cutting::Piece;

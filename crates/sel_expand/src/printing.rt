@@ -1,29 +1,24 @@
-ghost use Rattle.std.specs.Prelude.{List, ◌≡◌, ◌++◌, ◌∷◌, ◌≤◌, ◌<◌, ◌+◌, length, map, [], slice_get, slice_set, slice_range, IfOk, Some};
-ghost use Rattle.sel_forest.specs.declared.forest.Node.{Node};
+ghost use Rattle.std.specs.Prelude.{List, ◌≡◌, ◌++◌, ◌<◌, length, map, slice_get, slice_set, IfOk, Some, []};
 ghost use Rattle.std.specs.Option.{option_copied};
-ghost use Rattle.std.specs.Fmt.{signed_decimal};
-ghost use Rattle.sel_grammar.specs.Expansions.{Text, attribute_bytes, part_text};
+ghost use Rattle.sel_grammar.specs.declared.emission.Emitted.TheVariants.{Byte};
+ghost use Rattle.sel_grammar.specs.declared.grammar.Grammar.{Grammar as AnyGrammar};
+ghost use Rattle.sel_grammar.specs.Expansions.{attribute_bytes};
+ghost use Rattle.sel_forest.specs.declared.forest.Node.{Node as AnyNode};
 ghost use Rattle.sel_expand.specs.Running.{attribute_at};
-ghost use Rattle.sel_expand.specs.Books.{text_at};
-ghost use Rattle.sel_expand.specs.Printing.{flat, Puts, IsKidOf, Turns, IsPrinted, part_wanted, with_kids, HasTexts, IsValuePrinted, IsLinePrinted, is_line};
+ghost use Rattle.sel_expand.specs.Values.{text_at};
+ghost use Rattle.sel_expand.specs.Printing.{flat, Puts, Fills, IsKidOf, IsPrinted, part_wanted, with_kids, HasTexts, IsValuePrinted, IsLinePrinted, AreAllPrinted, is_line, is_line_kind};
 
-use crate::book::{Book, Entry, kid_at};
-use crate::templates::{is_instruction, parts_of};
+use crate::reductions::{Reduction, Reductions, kid_at};
+use crate::sheet::{Sheet, Span};
+use crate::templates::{Kind, parts_of};
 use itoa::Buffer;
 use sel_base::NoMemory;
 use sel_forest::{Node, node_at};
-use sel_grammar::{Attribute, Emitted, Grammar, Part};
+use sel_grammar::{Attribute, Grammar, Part};
 
-/// Where a value stands in the text that is made.
+/// What is to be done: a reduction's template from a part on, or to note where a reduction's value stands.
 #[derive(Clone, Copy, Debug, Drop)]
-pub struct Spot {
-    pub start: usize,
-    pub end: usize,
-}
-
-/// What is to be done: an entry's template from a part on, or to note where an entry's value stands.
-#[derive(Clone, Copy, Debug, Drop)]
-pub enum Job {
+pub enum Frame {
     Fill(usize, usize),
     Note(usize, usize),
 }
@@ -34,45 +29,21 @@ fn part_at(parts: &[Part], place: usize) -> Option<&Part>
     parts.get(place)
 }
 
-fn put_temporary(number: u64, out: &mut Vec<Emitted>) -> Result<(), NoMemory>
-    ensures { IfOk result (λ _. out.new.items ≡ out.old.items ++ Emitted.Temporary number ∷ []) }
-{
-    out.push(Emitted::Temporary(number))?;
-    Ok(())
-}
-
-fn put_bytes(bytes: &[u8], out: &mut Vec<Emitted>) -> Result<(), NoMemory>
-    ensures { IfOk result (λ _. out.new.items ≡ out.old.items ++ map Emitted.Byte bytes.now) }
-{
-    'bytes: for byte in bytes {
-        out.push(Emitted::Byte(*byte))?;
-    }
-    Ok(())
-}
-
-fn put_number(number: i64, out: &mut Vec<Emitted>) -> Result<(), NoMemory>
-    ensures { IfOk result (λ _. out.new.items ≡ out.old.items ++ map Emitted.Byte (signed_decimal number)) }
-{
-    let mut buffer = Buffer::new();
-    put_bytes(buffer.format(number).as_bytes(), out)?;
-    Ok(())
-}
-
-fn put_own(attribute: &Attribute, out: &mut Vec<Emitted>) -> Result<(), NoMemory>
-    ensures { IfOk result (λ _. out.new.items ≡ out.old.items ++ map Emitted.Byte (attribute_bytes attribute.now)) }
+fn put_own<S: Sheet>(attribute: &Attribute, out: &mut S) -> Result<(), NoMemory>
+    ensures { IfOk result (λ _. S.told out.new ≡ S.told out.old ++ map Byte (attribute_bytes attribute.now)) }
 {
     match attribute {
         Attribute::Absent => Ok(()),
         Attribute::Number(number) => {
-            put_number(*number, out)?;
-            Ok(())
+            let mut buffer = Buffer::new();
+            out.put_bytes(buffer.format(*number).as_bytes())
         }
-        Attribute::Symbol(name) => put_bytes(name.as_slice(), out),
+        Attribute::Symbol(name) => out.put_bytes(name.as_slice()),
     }
 }
 
-fn put_attribute(nodes: &[Node], at: usize, out: &mut Vec<Emitted>) -> Result<(), NoMemory>
-    ensures { IfOk result (λ _. out.new.items ≡ out.old.items ++ map Emitted.Byte (attribute_bytes (attribute_at nodes.now at))) }
+fn put_attribute<S: Sheet>(nodes: &[Node], at: usize, out: &mut S) -> Result<(), NoMemory>
+    ensures { IfOk result (λ _. S.told out.new ≡ S.told out.old ++ map Byte (attribute_bytes (attribute_at nodes.now at))) }
 {
     match node_at(nodes, at) {
         Some(node) => put_own(&node.attribute, out),
@@ -80,196 +51,250 @@ fn put_attribute(nodes: &[Node], at: usize, out: &mut Vec<Emitted>) -> Result<()
     }
 }
 
-fn put_copy(spot: Spot, out: &mut Vec<Emitted>) -> Result<(), NoMemory>
-    ensures { IfOk result (λ _. (more : Text) × (out.new.items ≡ out.old.items ++ more)
-        × (spot.start ≤ spot.end → spot.end ≤ length out.old.items → more ≡ slice_range out.old.items spot.start spot.end)) }
+fn span_of(spans: &[Option<Span>], at: usize) -> Option<Span>
+    ensures { result ≡ flat (slice_get spans.now at) }
 {
-    if spot.start <= spot.end && spot.end <= out.len() {
-        out.extend_from_within(spot.start..spot.end)?;
-    }
-    Ok(())
-}
-
-fn spot_of(spots: &[Option<Spot>], at: usize) -> Option<Spot>
-    ensures { result ≡ flat (slice_get spots.now at) }
-{
-    match spots.get(at) {
-        Some(spot) => *spot,
+    match spans.get(at) {
+        Some(span) => *span,
         None => None,
     }
 }
 
-/// Prints the value of the entry, or leaves it to be printed and noted where it is a fragment's that
-/// stands nowhere yet.
-fn put_kid(
-    grammar: &Grammar,
-    book: &Book,
-    spots: &[Option<Spot>],
+/// Prints the value of the reduction, or tells it where it is a fragment's that stands nowhere yet.
+fn put_kid<S: Sheet>(
+    reductions: &Reductions,
+    spans: &[Option<Span>],
     kid: usize,
-    jobs: &mut Vec<Job>,
-    out: &mut Vec<Emitted>,
-) -> Result<(), NoMemory>
-    ensures { IfOk result (λ _. (nodes : List Node) → Puts grammar.now nodes book.now spots.now out.old.items out.new.items jobs.old.items jobs.new.items (λ texts. text_at texts kid) (λ j. j ≡ kid)) }
+    out: &mut S,
+) -> Result<Option<usize>, NoMemory>
+    ensures { IfOk result (λ later. (g : AnyGrammar) (nodes : List AnyNode) → Puts S.apart g nodes reductions.now spans.now (S.told out.old) (S.told out.new) later (λ texts. text_at texts kid) (λ j. j ≡ kid)) }
 {
-    let Some(entry) = book.entry(kid) else {
-        return Ok(());
+    let Some(own) = reductions.own(kid) else {
+        return Ok(None);
     };
-    if is_instruction(parts_of(grammar, entry.rule)) {
-        if entry.length > 0 {
-            put_temporary(entry.next, out)?;
+    match own.kind {
+        Kind::Named => {
+            out.put_temporary(own.next)?;
+            Ok(None)
         }
-        return Ok(());
-    }
-    match spot_of(spots, kid) {
-        Some(spot) => put_copy(spot, out),
-        None => {
-            jobs.push(Job::Note(kid, out.len()))?;
-            jobs.push(Job::Fill(kid, 0))?;
-            Ok(())
-        }
-    }
-}
-
-/// Prints the part of the entry's template. These are the places of the entry's kids.
-fn put_part(
-    grammar: &Grammar,
-    nodes: &[Node],
-    book: &Book,
-    spots: &[Option<Spot>],
-    entry: Entry,
-    kids: &[usize],
-    part: &Part,
-    jobs: &mut Vec<Job>,
-    out: &mut Vec<Emitted>,
-) -> Result<(), NoMemory>
-    ensures { IfOk result (λ _. Puts grammar.now nodes.now book.now spots.now out.old.items out.new.items jobs.old.items jobs.new.items
-        (part_wanted nodes.now (with_kids entry kids.now) part.now) (IsKidOf (with_kids entry kids.now))) }
-{
-    match part {
-        Part::Text(text) => put_bytes(text.as_slice(), out),
-        Part::Attribute => put_attribute(nodes, entry.at, out),
-        Part::Temp => put_temporary(entry.next, out),
-        Part::Kid(kid) => match kid_at(kids, *kid as usize) {
-            Some(at) => put_kid(grammar, book, spots, at, jobs, out),
-            None => Ok(()),
+        Kind::Unnamed => Ok(None),
+        Kind::Fragment => match span_of(spans, kid) {
+            Some(span) => {
+                out.put_copy(span)?;
+                Ok(None)
+            }
+            None => Ok(Some(kid)),
         },
     }
 }
 
-/// Prints a part of the entry's template, and leaves the parts behind it to be printed.
-fn turn(
+/// Prints the part of the reduction's template, or tells the kid whose value is to be printed first.
+/// These are the places of the reduction's kids.
+fn put_part<S: Sheet>(
+    nodes: &[Node],
+    reductions: &Reductions,
+    spans: &[Option<Span>],
+    own: Reduction,
+    kids: &[usize],
+    part: &Part,
+    out: &mut S,
+) -> Result<Option<usize>, NoMemory>
+    ensures { IfOk result (λ later. (g : AnyGrammar) → Puts S.apart g nodes.now reductions.now spans.now (S.told out.old) (S.told out.new) later
+        (part_wanted nodes.now (with_kids own kids.now) part.now) (IsKidOf (with_kids own kids.now))) }
+{
+    match part {
+        Part::Text(text) => {
+            out.put_bytes(text.as_slice())?;
+            Ok(None)
+        }
+        Part::Attribute => {
+            put_attribute(nodes, own.at, out)?;
+            Ok(None)
+        }
+        Part::Temp => {
+            out.put_temporary(own.next)?;
+            Ok(None)
+        }
+        Part::Kid(kid) => match kid_at(kids, *kid as usize) {
+            Some(at) => put_kid(reductions, spans, at, out),
+            None => Ok(None),
+        },
+    }
+}
+
+/// Prints the reduction's template from a part on. Where a kid's value is to be printed first, what is
+/// left to be done is put on the stack. Tells whether the sheet is full.
+fn fill<S: Sheet>(
     grammar: &Grammar,
     nodes: &[Node],
-    book: &Book,
-    spots: &[Option<Spot>],
+    reductions: &Reductions,
+    spans: &[Option<Span>],
     at: usize,
-    place: usize,
-    jobs: &mut Vec<Job>,
-    out: &mut Vec<Emitted>,
-) -> Result<(), NoMemory>
-    ensures { IfOk result (λ _. Turns grammar.now nodes.now book.now spots.now at place out.old.items out.new.items jobs.old.items jobs.new.items) }
+    first: usize,
+    frames: &mut Vec<Frame>,
+    out: &mut S,
+) -> Result<bool, NoMemory>
+    ensures { IfOk result (Fills S.apart grammar.now nodes.now reductions.now spans.now at first (S.told out.old) (S.told out.new) frames.old.items frames.new.items) }
 {
-    let Some(entry) = book.entry(at) else {
-        return Ok(());
+    let Some(own) = reductions.own(at) else {
+        return Ok(false);
     };
-    let parts = parts_of(grammar, entry.rule);
-    let Some(part) = part_at(parts, place) else {
-        return Ok(());
-    };
-    let kids = book.kids(at);
-    jobs.push(Job::Fill(at, place + 1))?;
-    put_part(grammar, nodes, book, spots, entry, kids, part, jobs, out)
+    let parts = parts_of(grammar, own.rule);
+    let kids = reductions.kids(at);
+    let mut place = first;
+    'parts: while let Some(part) = part_at(parts, place) {
+        if out.is_full() {
+            return Ok(true);
+        }
+        if let Some(kid) = put_part(nodes, reductions, spans, own, kids, part, out)? {
+            frames.push(Frame::Fill(at, place + 1))?;
+            frames.push(Frame::Note(kid, out.len()))?;
+            frames.push(Frame::Fill(kid, 0))?;
+            return Ok(false);
+        }
+        place += 1;
+    }
+    Ok(false)
 }
 
-/// Notes where the entry's value stands.
-fn note(spots: &mut Vec<Option<Spot>>, at: usize, spot: Spot)
-    requires { at < length spots.old.items }
-    ensures { spots.new.items ≡ slice_set spots.old.items at (Some spot) }
+/// Notes where the reduction's value stands.
+fn note(spans: &mut Vec<Option<Span>>, at: usize, span: Span)
+    requires { at < length spans.old.items }
+    ensures { spans.new.items ≡ slice_set spans.old.items at (Some span) }
 {
-    spots[at] = Some(spot);
+    spans[at] = Some(span);
 }
 
-/// Prints the entry's template.
-fn print(
+/// Prints the reduction's template, and tells whether the sheet is full.
+fn print<S: Sheet>(
     grammar: &Grammar,
     nodes: &[Node],
-    book: &Book,
+    reductions: &Reductions,
     first: usize,
-    spots: &mut Vec<Option<Spot>>,
-    jobs: &mut Vec<Job>,
-    out: &mut Vec<Emitted>,
-) -> Result<(), NoMemory>
-    requires { HasTexts grammar.now nodes.now book.now }
-    ensures { IfOk result (λ _. IsPrinted grammar.now nodes.now book.now first spots.old.items spots.new.items out.old.items out.new.items) }
+    spans: &mut Vec<Option<Span>>,
+    frames: &mut Vec<Frame>,
+    out: &mut S,
+) -> Result<bool, NoMemory>
+    requires { HasTexts grammar.now nodes.now reductions.now }
+    ensures { IfOk result (IsPrinted S.apart grammar.now nodes.now reductions.now first spans.old.items spans.new.items (S.told out.old) (S.told out.new)) }
 {
-    jobs.clear();
-    jobs.push(Job::Fill(first, 0))?;
-    'jobs: while let Some(job) = jobs.pop() {
-        match job {
-            Job::Fill(at, place) => {
-                turn(grammar, nodes, book, spots.as_slice(), at, place, jobs, out)?;
+    frames.clear();
+    frames.push(Frame::Fill(first, 0))?;
+    'frames: while let Some(frame) = frames.pop() {
+        match frame {
+            Frame::Fill(at, place) => {
+                if fill(
+                    grammar,
+                    nodes,
+                    reductions,
+                    spans.as_slice(),
+                    at,
+                    place,
+                    frames,
+                    out,
+                )? {
+                    return Ok(true);
+                }
             }
-            Job::Note(at, start) => {
+            Frame::Note(at, start) => {
                 let end = out.len();
-                if at < spots.len() {
-                    note(spots, at, Spot { start, end });
+                if at < spans.len() {
+                    note(spans, at, Span { start, end });
                 }
             }
         }
     }
-    Ok(())
+    Ok(false)
 }
 
-/// Prints the entry's value.
-pub fn print_value(
+/// Prints the reduction's value, and tells whether the sheet is full.
+fn print_value<S: Sheet>(
     grammar: &Grammar,
     nodes: &[Node],
-    book: &Book,
+    reductions: &Reductions,
     at: usize,
-    spots: &mut Vec<Option<Spot>>,
-    jobs: &mut Vec<Job>,
-    out: &mut Vec<Emitted>,
-) -> Result<(), NoMemory>
-    requires { HasTexts grammar.now nodes.now book.now }
-    ensures { IfOk result (λ _. IsValuePrinted grammar.now nodes.now book.now at spots.old.items out.old.items out.new.items) }
+    spans: &mut Vec<Option<Span>>,
+    frames: &mut Vec<Frame>,
+    out: &mut S,
+) -> Result<bool, NoMemory>
+    requires { HasTexts grammar.now nodes.now reductions.now }
+    ensures { IfOk result (IsValuePrinted S.apart grammar.now nodes.now reductions.now at spans.old.items (S.told out.old) (S.told out.new)) }
 {
-    let Some(entry) = book.entry(at) else {
-        return Ok(());
+    let Some(own) = reductions.own(at) else {
+        return Ok(false);
     };
-    if is_instruction(parts_of(grammar, entry.rule)) {
-        if entry.length > 0 {
-            put_temporary(entry.next, out)?;
+    match own.kind {
+        Kind::Named => {
+            out.put_temporary(own.next)?;
+            Ok(false)
         }
-        return Ok(());
+        Kind::Unnamed => Ok(false),
+        Kind::Fragment => print(grammar, nodes, reductions, at, spans, frames, out),
     }
-    print(grammar, nodes, book, at, spots, jobs, out)
 }
 
-fn is_line(grammar: &Grammar, book: &Book, at: usize) -> bool
-    ensures { result ≡ is_line grammar.now (slice_get book.now at) }
+fn is_line_kind(kind: Kind) -> bool
+    ensures { result ≡ is_line_kind kind }
 {
-    match book.entry(at) {
-        Some(entry) => is_instruction(parts_of(grammar, entry.rule)),
+    match kind {
+        Kind::Named | Kind::Unnamed => true,
+        Kind::Fragment => false,
+    }
+}
+
+fn is_line(reductions: &Reductions, at: usize) -> bool
+    ensures { result ≡ is_line (slice_get reductions.now at) }
+{
+    match reductions.own(at) {
+        Some(own) => is_line_kind(own.kind),
         None => false,
     }
 }
 
-/// Prints the line of the entry, where it is an instruction's.
-pub fn print_line(
+/// Prints the line of the reduction, where it is an instruction's, and tells whether the sheet is full.
+fn print_line<S: Sheet>(
     grammar: &Grammar,
     nodes: &[Node],
-    book: &Book,
+    reductions: &Reductions,
     at: usize,
-    spots: &mut Vec<Option<Spot>>,
-    jobs: &mut Vec<Job>,
-    out: &mut Vec<Emitted>,
-) -> Result<(), NoMemory>
-    requires { HasTexts grammar.now nodes.now book.now }
-    ensures { IfOk result (λ _. IsLinePrinted grammar.now nodes.now book.now at spots.old.items spots.new.items out.old.items out.new.items) }
+    spans: &mut Vec<Option<Span>>,
+    frames: &mut Vec<Frame>,
+    out: &mut S,
+) -> Result<bool, NoMemory>
+    requires { HasTexts grammar.now nodes.now reductions.now }
+    ensures { IfOk result (IsLinePrinted S.apart grammar.now nodes.now reductions.now at spans.old.items spans.new.items (S.told out.old) (S.told out.new)) }
 {
-    if is_line(grammar, book, at) {
-        print(grammar, nodes, book, at, spots, jobs, out)
+    if is_line(reductions, at) {
+        print(grammar, nodes, reductions, at, spans, frames, out)
     } else {
-        Ok(())
+        Ok(false)
     }
+}
+
+/// Prints all lines and then the value of one reduction, on an empty sheet, and tells whether they are more than
+/// a text may have.
+pub fn print_all<S: Sheet>(
+    grammar: &Grammar,
+    nodes: &[Node],
+    reductions: &Reductions,
+    last: usize,
+    spans: &mut Vec<Option<Span>>,
+    frames: &mut Vec<Frame>,
+    out: &mut S,
+) -> Result<bool, NoMemory>
+    requires texts { HasTexts grammar.now nodes.now reductions.now }
+    requires empty { S.told out.old ≡ [] }
+    ensures { IfOk result (AreAllPrinted S.apart grammar.now nodes.now reductions.now last (S.told out.new)) }
+{
+    spans.clear();
+    spans.resize(reductions.len(), None)?;
+    'reductions: for at in 0..reductions.len() {
+        if print_line(grammar, nodes, reductions, at, spans, frames, out)? {
+            return Ok(true);
+        }
+    }
+    if print_value(grammar, nodes, reductions, last, spans, frames, out)? {
+        return Ok(true);
+    }
+    Ok(out.is_full())
 }

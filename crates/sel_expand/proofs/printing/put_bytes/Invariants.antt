@@ -1,6 +1,0 @@
-use Rattle.std.proofs.Common.{◌≡◌, ◌++◌, map, take}
-use Rattle.sel_grammar.specs.declared.emission.Emitted.TheVariants.{Byte}
-use Rattle.sel_expand.proofs.printing.put_bytes.Given as goal
-
-abbrev pub invariant-bytes : goal.invariant-bytes
-invariant-bytes l = l.out.items ≡ l.initial.out.items ++ map Byte (take l.byte-index l.bytes)
