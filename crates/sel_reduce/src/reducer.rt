@@ -51,7 +51,7 @@ pub fn reduce<A: Automaton>(
     if first.is_none() {
         return Ok(None);
     }
-    let mut walk = Walk::new(alloc, root)?;
+    let mut walk = Walk::new(alloc, root, nodes.len())?;
     while let Some(goal) = walk.goals.pop() {
         match entry_for(automaton, labels, goal) {
             Some(item) => walk.take(normal, nodes, goal, item.rule)?,

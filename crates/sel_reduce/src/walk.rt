@@ -18,6 +18,9 @@ use sel_label::Labels;
 use sel_normal::{Body, Normal};
 use std::alloc::Global;
 
+/// How many rules more than nodes, and how many goals, there is room for at first.
+const FEW: usize = 8;
+
 /// What is reduced of a tree: the rules so far, their cost, and the goals that are left, the next one last.
 #[derive(Debug, Drop)]
 pub struct Walk {
@@ -95,16 +98,18 @@ fn push_kids(body: Body, nodes: &[Node], at: usize, goals: &mut Vec<Goal>) -> Re
 }
 
 impl Walk {
-    /// A walk that begins with the goal.
-    pub fn new(alloc: Global, goal: Goal) -> Result<Walk, NoMemory>
+    /// A walk that begins with the goal, over so many nodes. It takes room for a rule at each, and for
+    /// the few goals that are mostly left at once.
+    pub fn new(alloc: Global, goal: Goal, nodes: usize) -> Result<Walk, NoMemory>
         ensures rules { IfOk result (λ walk. walk.rules.items ≡ []) }
         ensures cost { IfOk result (λ walk. walk.cost ≡ no_cost) }
         ensures goals { IfOk result (λ walk. walk.goals.items ≡ goal ∷ []) }
     {
-        let mut goals = Vec::new(alloc);
+        let rules = Vec::with_capacity(alloc, nodes.saturating_add(FEW))?;
+        let mut goals = Vec::with_capacity(alloc, FEW)?;
         goals.push(goal)?;
         Ok(Walk {
-            rules: Vec::new(alloc),
+            rules,
             cost: Pair {
                 first: 0,
                 second: 0,

@@ -41,7 +41,7 @@ impl<'r> Hand<'r> {
         ensures same { self.new.rows ≡ self.old.rows }
         ensures items { IfOk result (λ i. i ≡ items_of (held_content self.old.seat.me.0 number)) }
     {
-        let mut entries = Vec::new(alloc);
+        let mut entries = Vec::with_capacity(alloc, self.rows.width as usize)?;
         let mut index = 0;
         while index < self.rows.width {
             let word = self.entry::<Brand>(number, index);
