@@ -1,20 +1,27 @@
 -- The value of a reduction of each kind.
-use Rattle.std.proofs.Common.{◌≡◌, ℕ, Bool, Option, Some, None, List, [], ◌∷◌, ◌++◌, ap, sym, ◌∙◌, slice_get, refl}
+use Rattle.std.proofs.Common.{◌≡◌, ℕ, Bool, Option, Some, None, List, [], ◌∷◌, ◌++◌, ap, sym, ◌∙◌, slice_get, refl, map}
 use Rattle.sel_grammar.specs.declared.emission.Emitted.TheVariants.{Temporary}
 use Rattle.sel_grammar.specs.declared.grammar.Grammar.{Grammar}
 use Rattle.sel_grammar.specs.declared.grammar.Part.{Part}
 use Rattle.sel_grammar.specs.declared.grammar.Part.TheVariants as Parts
-use Rattle.sel_grammar.specs.Expansions.{Text, value_or_none}
+use Rattle.sel_grammar.specs.Expansions.{Text, value_or_none, filled}
 use Rattle.sel_forest.specs.declared.forest.Node.{Node}
+use Rattle.sel_forest.proofs.Matching.{some_same}
 use Rattle.sel_forest.proofs.PlaceLemmas.{append-none}
 use Rattle.sel_expand.specs.declared.sheet.Span.{Span}
 use Rattle.sel_expand.specs.declared.templates.Kind.{Kind}
-use Rattle.sel_expand.specs.declared.templates.Kind.TheVariants.{Named, Unnamed}
+use Rattle.sel_expand.specs.declared.templates.Kind.TheVariants.{Named, Unnamed, Fragment}
 use Rattle.sel_expand.specs.Reductions.{Reduced}
+use Rattle.sel_expand.specs.Running.{attribute_at, parts_at}
 use Rattle.sel_expand.specs.Sheets.{shown}
 use Rattle.sel_expand.specs.Values.{text_at, filled_at, value_by, AreTexts}
-use Rattle.sel_expand.specs.Printing.{Puts, printed, postponed, part_wanted, IsKidOf}
+use Rattle.sel_expand.specs.Printing.{only_part, Puts, printed, postponed, part_wanted, IsKidOf}
 use Rattle.sel_expand.proofs.Sheets.{none_both, text_of_kid, text_or_none, shown-none}
+
+only_is : (parts : List Part) (part : Part) → only_part parts ≡ Some part → parts ≡ part ∷ []
+only_is [] part h = cc
+only_is (x ∷ []) part h = ap (λ y. y ∷ []) (some_same h)
+only_is (x ∷ y ∷ parts) part h = cc
 
 module _ (g : Grammar) (nodes : List Node) (rs : List Reduced) (texts : List Text) (are : AreTexts g nodes rs texts) (i : ℕ) where
   pub no_value : slice_get rs i ≡ None → [] ≡ text_at texts i
@@ -26,6 +33,11 @@ module _ (g : Grammar) (nodes : List Node) (rs : List Reduced) (texts : List Tex
 
     pub named_value : r.own.kind ≡ Named → Temporary r.own.next ∷ [] ≡ text_at texts i
     named_value e = value_is Named e
+
+    -- the value of a fragment with one part
+    pub part_value : (part : Part) → r.own.kind ≡ Fragment → only_part (parts_at g r.own.rule) ≡ Some part → part_wanted nodes r part texts ≡ text_at texts i
+    part_value part e only =
+        append-none (part_wanted nodes r part texts) ∙ ap (filled (map (text_at texts) r.kids) (attribute_at nodes r.own.at) r.own.next) (sym (only_is (parts_at g r.own.rule) part only)) ∙ value_is Fragment e
 
     pub unnamed_value : r.own.kind ≡ Unnamed → [] ≡ text_at texts i
     unnamed_value e = value_is Unnamed e
@@ -49,3 +61,9 @@ puts_kid b g nodes rs spans out out' later r part k i kid at p = go p
 pub puts_part : (b : Bool) (g : Grammar) (nodes : List Node) (rs : List Reduced) (spans : List (Option Span)) (out out' : Text) (r : Reduced) (part : Part) (text : Text) → ((texts : List Text) → part_wanted nodes r part texts ≡ text)
     → out' ≡ out ++ shown b text → Puts b g nodes rs spans out out' None (part_wanted nodes r part) (IsKidOf r)
 puts_part b g nodes rs spans out out' r part text wants e = printed refl (λ texts are hold. e ∙ ap (λ x. out ++ shown b x) (sym (wants texts)))
+
+-- a fragment that is printed at once
+pub puts_fragment : (b : Bool) (g : Grammar) (nodes : List Node) (rs : List Reduced) (spans : List (Option Span)) (out out' : Text) (kid : ℕ) (r : Reduced) (part : Part) (text : Text) → slice_get rs kid ≡ Some r → r.own.kind ≡ Fragment
+    → only_part (parts_at g r.own.rule) ≡ Some part → ((texts : List Text) → part_wanted nodes r part texts ≡ text) → out' ≡ out ++ shown b text → Puts b g nodes rs spans out out' None (λ texts. text_at texts kid) (λ j. j ≡ kid)
+puts_fragment b g nodes rs spans out out' kid r part text at fragment only wants e =
+    printed refl (λ texts are hold. e ∙ ap (λ x. out ++ shown b x) (sym (wants texts) ∙ part_value g nodes rs texts are kid r at part fragment only))

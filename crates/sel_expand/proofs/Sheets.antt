@@ -2,7 +2,9 @@
 use Rattle.std.proofs.Common.{◌≡◌, ℕ, zero, suc, ◌+◌, ◌-◌, ◌<◌, Bool, true, false, Option, Some, None, List, [], ◌∷◌, refl, ap, sym, ◌∙◌, length, slice_get, arith, length-append, map, append_assoc, ◌++◌, take, drop}
 use Rattle.std.specs.Prelude.{slice_range}
 use Rattle.std.proofs.lemmas.List.{map-append}
-use Rattle.sel_grammar.specs.declared.emission.Emitted.TheVariants.{Byte}
+use Rattle.std.specs.Fmt.{decimal}
+use Rattle.std.proofs.lemmas.Fmt.{decimal_digit}
+use Rattle.sel_grammar.specs.declared.emission.Emitted.TheVariants.{Byte, Temporary}
 use Rattle.sel_forest.proofs.PlaceLemmas.{append-none}
 use Rattle.sel_grammar.specs.Expansions.{emitted_bytes, text_bytes, Text, value_or_none}
 use Rattle.sel_expand.specs.Sheets.{shown, IsOver, IsCut}
@@ -70,3 +72,10 @@ cut_whole b out target e over = record { more = []; front = sym (append-none out
 
 pub cut_long : (b : Bool) (out target : Text) → IsCut b out target → 1048576 < length target
 cut_long b out target c = let l = c.over.long in let e : length out + length c.more ≡ length target = sym (length-append out c.more) ∙ ap length c.front in omega arith
+
+-- a name with one digit is put
+pub named_digit : (old one two : List ℕ) (number digit : ℕ) → number < 10 → one ≡ old ++ 116 ∷ [] → two ≡ one ++ digit ∷ [] → digit ≡ 48 + number → map Byte two ≡ map Byte old ++ map Byte (text_bytes (Temporary number ∷ []))
+named_digit old one two number digit h e f d =
+    let same : 116 ∷ digit ∷ [] ≡ text_bytes (Temporary number ∷ []) = ap (λ x. 116 ∷ x) (ap (λ x. x ∷ []) d ∙ sym (decimal_digit number h)) ∙ append-none (116 ∷ decimal number) in
+    let all : two ≡ old ++ (116 ∷ digit ∷ []) = f ∙ ap (λ x. x ++ digit ∷ []) e ∙ append_assoc old (116 ∷ []) (digit ∷ []) in
+    ap (map Byte) all ∙ map-append Byte old (116 ∷ digit ∷ []) ∙ ap (λ x. map Byte old ++ map Byte x) same

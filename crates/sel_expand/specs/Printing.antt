@@ -24,6 +24,12 @@ abbrev pub flat : {A : Type 0} → Option (Option A) → Option A
 flat None = None
 flat (Some o) = o
 
+-- the part of a template that has one alone
+abbrev pub only_part : List Part → Option Part
+only_part [] = None
+only_part (part ∷ []) = Some part
+only_part (part ∷ other ∷ parts) = None
+
 -- the span holds the value of the reduction i
 pub record IsSpan (apart : Bool) (texts : List Text) (out : Text) (i start end : ℕ) : Type 0 where
   pub order : start ≤ end

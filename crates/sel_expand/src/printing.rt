@@ -1,12 +1,13 @@
-ghost use Rattle.std.specs.Prelude.{List, ◌≡◌, ◌++◌, ◌<◌, length, map, slice_get, slice_set, IfOk, Some, []};
+ghost use Rattle.std.specs.Prelude.{List, ◌≡◌, ◌++◌, ◌<◌, length, map, slice_get, slice_set, IfOk, Some, Option, ℕ, []};
 ghost use Rattle.std.specs.Option.{option_copied};
 ghost use Rattle.sel_grammar.specs.declared.emission.Emitted.TheVariants.{Byte};
-ghost use Rattle.sel_grammar.specs.declared.grammar.Grammar.{Grammar as AnyGrammar};
 ghost use Rattle.sel_grammar.specs.Expansions.{attribute_bytes};
-ghost use Rattle.sel_forest.specs.declared.forest.Node.{Node as AnyNode};
+ghost use Rattle.sel_expand.specs.declared.sheet.Span.{Span as AnySpan};
+ghost use Rattle.sel_expand.specs.declared.templates.Kind.TheVariants.{Fragment};
+ghost use Rattle.sel_expand.specs.Reductions.{Reduced as AnyReduced};
 ghost use Rattle.sel_expand.specs.Running.{attribute_at};
 ghost use Rattle.sel_expand.specs.Values.{text_at};
-ghost use Rattle.sel_expand.specs.Printing.{flat, Puts, Fills, IsKidOf, IsPrinted, part_wanted, with_kids, HasTexts, IsValuePrinted, IsLinePrinted, AreAllPrinted, is_line, is_line_kind};
+ghost use Rattle.sel_expand.specs.Printing.{flat, only_part, Puts, Fills, IsKidOf, IsPrinted, part_wanted, with_kids, HasTexts, IsValuePrinted, IsLinePrinted, AreAllPrinted, is_line, is_line_kind};
 
 use crate::reductions::{Reduction, Reductions, kid_at};
 use crate::sheet::{Sheet, Span};
@@ -60,14 +61,54 @@ fn span_of(spans: &[Option<Span>], at: usize) -> Option<Span>
     }
 }
 
-/// Prints the value of the reduction, or tells it where it is a fragment's that stands nowhere yet.
+fn only_part(parts: &[Part]) -> Option<&Part>
+    ensures { option_copied result ≡ only_part parts.now }
+{
+    match parts {
+        [part] => Some(part),
+        _ => None,
+    }
+}
+
+/// Prints the value of a fragment that stands nowhere yet, where its template is a text or the attribute
+/// alone, or tells it.
+fn put_fragment<S: Sheet>(
+    grammar: &Grammar,
+    nodes: &[Node],
+    own: Reduction,
+    kid: usize,
+    out: &mut S,
+) -> Result<Option<usize>, NoMemory>
+    requires { own.kind ≡ Fragment }
+    ensures { IfOk result (λ later. (rs : List AnyReduced) (spans : List (Option AnySpan)) (kids : List ℕ) → slice_get rs kid ≡ Some (with_kids own kids)
+        → Puts S.apart grammar.now nodes.now rs spans (S.told out.old) (S.told out.new) later (λ texts. text_at texts kid) (λ j. j ≡ kid)) }
+{
+    match only_part(parts_of(grammar, own.rule)) {
+        Some(part) => match part {
+            Part::Text(text) => {
+                out.put_bytes(text.as_slice())?;
+                Ok(None)
+            }
+            Part::Attribute => {
+                put_attribute(nodes, own.at, out)?;
+                Ok(None)
+            }
+            _ => Ok(Some(kid)),
+        },
+        None => Ok(Some(kid)),
+    }
+}
+
+/// Prints the value of the reduction, or tells it where it is a fragment's that is to be printed first.
 fn put_kid<S: Sheet>(
+    grammar: &Grammar,
+    nodes: &[Node],
     reductions: &Reductions,
     spans: &[Option<Span>],
     kid: usize,
     out: &mut S,
 ) -> Result<Option<usize>, NoMemory>
-    ensures { IfOk result (λ later. (g : AnyGrammar) (nodes : List AnyNode) → Puts S.apart g nodes reductions.now spans.now (S.told out.old) (S.told out.new) later (λ texts. text_at texts kid) (λ j. j ≡ kid)) }
+    ensures { IfOk result (λ later. Puts S.apart grammar.now nodes.now reductions.now spans.now (S.told out.old) (S.told out.new) later (λ texts. text_at texts kid) (λ j. j ≡ kid)) }
 {
     let Some(own) = reductions.own(kid) else {
         return Ok(None);
@@ -83,7 +124,7 @@ fn put_kid<S: Sheet>(
                 out.put_copy(span)?;
                 Ok(None)
             }
-            None => Ok(Some(kid)),
+            None => put_fragment(grammar, nodes, own, kid, out),
         },
     }
 }
@@ -91,6 +132,7 @@ fn put_kid<S: Sheet>(
 /// Prints the part of the reduction's template, or tells the kid whose value is to be printed first.
 /// These are the places of the reduction's kids.
 fn put_part<S: Sheet>(
+    grammar: &Grammar,
     nodes: &[Node],
     reductions: &Reductions,
     spans: &[Option<Span>],
@@ -99,7 +141,7 @@ fn put_part<S: Sheet>(
     part: &Part,
     out: &mut S,
 ) -> Result<Option<usize>, NoMemory>
-    ensures { IfOk result (λ later. (g : AnyGrammar) → Puts S.apart g nodes.now reductions.now spans.now (S.told out.old) (S.told out.new) later
+    ensures { IfOk result (λ later. Puts S.apart grammar.now nodes.now reductions.now spans.now (S.told out.old) (S.told out.new) later
         (part_wanted nodes.now (with_kids own kids.now) part.now) (IsKidOf (with_kids own kids.now))) }
 {
     match part {
@@ -116,7 +158,7 @@ fn put_part<S: Sheet>(
             Ok(None)
         }
         Part::Kid(kid) => match kid_at(kids, *kid as usize) {
-            Some(at) => put_kid(reductions, spans, at, out),
+            Some(at) => put_kid(grammar, nodes, reductions, spans, at, out),
             None => Ok(None),
         },
     }
@@ -146,7 +188,7 @@ fn fill<S: Sheet>(
         if out.is_full() {
             return Ok(true);
         }
-        if let Some(kid) = put_part(nodes, reductions, spans, own, kids, part, out)? {
+        if let Some(kid) = put_part(grammar, nodes, reductions, spans, own, kids, part, out)? {
             frames.push(Frame::Fill(at, place + 1))?;
             frames.push(Frame::Note(kid, out.len()))?;
             frames.push(Frame::Fill(kid, 0))?;

@@ -66,8 +66,12 @@ impl Sheet for Vec<u8> {
     }
 
     fn put_temporary(&mut self, number: u64) -> Result<(), NoMemory> {
-        let mut buffer = Buffer::new();
         self.push(b't')?;
+        if number < 10 {
+            self.push(b'0' + number as u8)?;
+            return Ok(());
+        }
+        let mut buffer = Buffer::new();
         self.extend_from_slice(buffer.format(number).as_bytes())?;
         Ok(())
     }

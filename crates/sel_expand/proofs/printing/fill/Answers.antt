@@ -28,7 +28,7 @@ returns-in-Some-2 g c =
     let at : slice_get rs c.args.at ≡ Some r = own_kids o c.in-Some.own c.in-Some.ensures ∙ ap (λ k. Some (with_kids c.in-Some.own k)) (sym c.kids-kids.ensures) in
     let here : slice_get (parts_at c.args.grammar.now c.in-Some.own.rule) c.parts.place ≡ Some c.in-Some-part_at.part.now = ap (λ x. slice_get x c.parts.place) (sym c.parts_of-parts.ensures) ∙ sym c.in-Some-part_at.ensures in
     filled_left g.S.Sheet.apart c.args.grammar.now c.args.nodes.now rs c.args.spans.now c.args.at c.args.first c.parts.place c.in-Some-2.kid (g.S.Sheet.told c.args.out.now) (g.S.Sheet.told c.parts.out) (g.S.Sheet.told c.put_part.new.out)
-    c.args.frames.now.items c.push-in-Some-2-2.new.self.items c.in_ok-kid.field-0 r c.in-Some-part_at.part.now c.in-Some-2.is c.parts.invariant.from at here c.parts.invariant.filled (c.in_ok-kid.ensures c.args.grammar.now)
+    c.args.frames.now.items c.push-in-Some-2-2.new.self.items c.in_ok-kid.field-0 r c.in-Some-part_at.part.now c.in-Some-2.is c.parts.invariant.from at here c.parts.invariant.filled c.in_ok-kid.ensures
     (c.in_ok-push-3.ensures.items ∙ ap (λ x. x ++ Fill c.in-Some-2.kid 0 ∷ []) (c.in_ok-push-2.ensures.items
     ∙ (λ j. (c.in_ok-push.ensures.items ∙ ap (λ x. x ++ Fill c.args.at (c.parts.place + 1) ∷ []) c.parts.invariant.frames) j ++ Note c.in-Some-2.kid (c.len.ensures j) ∷ [])))
 
@@ -46,7 +46,7 @@ parts-preserved g c =
       from = omega (arith, c.parts.invariant.from);
       frames = c.parts.invariant.frames;
       filled = filled_next g.S.Sheet.apart c.args.grammar.now c.args.nodes.now rs c.args.spans.now c.args.at c.args.first c.parts.place (g.S.Sheet.told c.args.out.now) (g.S.Sheet.told c.parts.out) (g.S.Sheet.told c.put_part.new.out)
-          c.in_ok-kid.field-0 r c.in-Some-part_at.part.now c.in_default-2.is at here c.parts.invariant.filled (c.in_ok-kid.ensures c.args.grammar.now);
+          c.in_ok-kid.field-0 r c.in-Some-part_at.part.now c.in_default-2.is at here c.parts.invariant.filled c.in_ok-kid.ensures;
     }
 
 pub returns : goal.returns
