@@ -1,6 +1,5 @@
--- One reduction more in the list.
-use Rattle.std.proofs.Common.{◌≡◌, ℕ, zero, suc, ◌+◌, ◌-◌, ◌<◌, ◌≤◌, ◌⊎◌, inl, inr, Bool, true, false, if◌then◌else◌, Some, List, [], ◌∷◌, ◌++◌, refl, ap, sym, ◌∙◌, subst, append_assoc, length, take, drop, slice_get, arith, length-append, map, get_or, add-one}
-use Rattle.std.proofs.Math.Seq.{take-suc}
+-- Task by task, the reductions of a derivation are listed.
+use Rattle.std.proofs.Common.{◌≡◌, ℕ, zero, suc, ◌+◌, ◌-◌, ◌<◌, ◌≤◌, ◌⊎◌, inl, inr, Bool, true, false, if◌then◌else◌, Some, List, [], ◌∷◌, ◌++◌, refl, ap, sym, ◌∙◌, subst, append_assoc, length, take, drop, slice_get, arith, length-append, map, reverse}
 use Rattle.sel_grammar.specs.declared.emission.Emitted.TheVariants.{Temporary}
 use Rattle.std.proofs.lemmas.List.{map-append, length-map}
 use Rattle.std.proofs.lemmas.Option.{slice_get_within}
@@ -11,13 +10,19 @@ use Rattle.sel_forest.specs.declared.forest.Node.{Node}
 use Rattle.sel_forest.proofs.Matching.{some_same, some_none}
 use Rattle.sel_forest.proofs.Roots.{slice_get-left, slice_get-right}
 use Rattle.sel_forest.proofs.PlaceLemmas.{append-none}
+use Rattle.sel_forest.specs.declared.walk.Goal.{Goal}
+use Rattle.sel_grammar.specs.Fits.{rule_at}
 use Rattle.sel_expand.specs.declared.places.Step.{Step}
+use Rattle.sel_expand.specs.declared.places.Task.{Task}
+use Rattle.sel_expand.specs.declared.places.Task.TheVariants.{Derive, Emit}
 use Rattle.sel_expand.specs.declared.templates.Kind.{Kind}
 use Rattle.sel_expand.specs.declared.templates.Kind.TheVariants.{Named, Unnamed, Fragment}
 use Rattle.sel_expand.specs.Reductions.{Reduced}
-use Rattle.sel_expand.specs.Running.{attribute_at, parts_at, emission_of, advance, run}
+use Rattle.sel_expand.specs.Running.{attribute_at, parts_at, emission_of, advance, run, nothing}
+use Rattle.sel_expand.specs.Steps.{goals_at, step_at, HasCover}
+use Rattle.sel_expand.proofs.Placing.{IsPartlyPlaced, placing_first, placing_emit, placing_derive, placing_end, number_left}
 use Rattle.sel_expand.proofs.Emitting.{run-append}
-use Rattle.sel_expand.specs.Values.{kind_of, next_by, value_by, line_by, IsAdded, text_at, filled_at, value_of, line_of, lines_of, AreTexts, IsListed}
+use Rattle.sel_expand.specs.Values.{kind_of, next_by, value_by, line_by, IsAdded, text_at, filled_at, value_of, line_of, lines_of, AreTexts, IsListed, AreListed}
 
 map-same : {A : Type 0} (f f' : ℕ → A) (xs : List ℕ) → ((k j : ℕ) → slice_get xs k ≡ Some j → f j ≡ f' j) → map f xs ≡ map f' xs
 map-same f f' [] h = refl
@@ -160,7 +165,7 @@ module _ (g : Grammar) (nodes : List Node) where
         below i r k j (inl h) q = list.are.below i r k j h q
         below i r k j (inr (q, p)) h = let low = kids_inside k j (ap (λ (x : Reduced). slice_get x.kids k) p ∙ h) in omega arith
 
-    pub listed_next : IsListed g nodes (advance g nodes s step) new after
+    listed_next : IsListed g nodes (advance g nodes s step) new after
     listed_next = record {
       texts = longer;
       are = subst (λ x. AreTexts g nodes x longer) (sym added.reductions_are) are_longer;
@@ -184,10 +189,13 @@ module _ (g : Grammar) (nodes : List Node) where
             omega (arith, length-append rs (one ∷ []), ap length added.reductions_are)
         inside k j (inr (q, p)) = omega (arith, length-append rs (one ∷ []), ap length added.reductions_are)
 
-    pub next_is : next' ≡ (advance g nodes s step).next
+    next_is : next' ≡ (advance g nodes s step).next
     next_is = added.next_is ∙ sym (ap (λ (e : Emission). e.next) emits)
 
-pub next_small : (g : Grammar) (step : Step) (next next' : ℕ) (rs new : List Reduced) (left after : List ℕ) → IsAdded g step next next' rs new left after → next' ≤ next + 1
+abbrev added_one : Grammar → Step → ℕ → List ℕ → Reduced
+added_one g step next left = record { own = record { rule = step.rule; kind = kind_of (parts_at g step.rule); at = step.at; next = next }; kids = drop (length left - step.kids) left }
+
+next_small : (g : Grammar) (step : Step) (next next' : ℕ) (rs new : List Reduced) (left after : List ℕ) → IsAdded g step next next' rs new left after → next' ≤ next + 1
 next_small g step next next' rs new left after added = subst (λ n. n ≤ next + 1) (sym added.next_is) (go (kind_of (parts_at g step.rule)))
   where
     go : (k : Kind) → next_by k next ≤ next + 1
@@ -195,15 +203,8 @@ next_small g step next next' rs new left after added = subst (λ n. n ≤ next +
     go Unnamed = omega arith
     go Fragment = omega arith
 
--- the list at a step
-pub take-more : (g : Grammar) (nodes : List Node) (s : Emissions) (steps : List Step) (k : ℕ) (d : Step) → k < length steps
-    → run g nodes s (take (k + 1) steps) ≡ advance g nodes (run g nodes s (take k steps)) (get_or steps k d)
-take-more g nodes s steps k d h =
-    let e : take (k + 1) steps ≡ take k steps ++ get_or steps k d ∷ [] = rw add-one (take-suc steps k d h) in
-    ap (run g nodes s) e ∙ run-append g nodes s (take k steps) (get_or steps k d ∷ [])
-
 -- nothing is listed yet
-pub listed_first : (g : Grammar) (nodes : List Node) (rs : List Reduced) (left : List ℕ) → rs ≡ [] → left ≡ [] → IsListed g nodes (record { lines = []; values = []; next = 1 }) rs left
+listed_first : (g : Grammar) (nodes : List Node) (rs : List Reduced) (left : List ℕ) → rs ≡ [] → left ≡ [] → IsListed g nodes nothing rs left
 listed_first g nodes rs left e h = record {
   texts = [];
   are = subst (λ x. AreTexts g nodes x []) (sym e) (record { long = refl; each = λ i r q. absurd (some_none (sym q)); below = λ i r k j q p. absurd (some_none (sym q)) });
@@ -211,3 +212,49 @@ listed_first g nodes rs left e h = record {
   inside = λ k j q. absurd (some_none (sym (ap (λ x. slice_get x k) (sym h) ∙ q)));
   values = ap (map (text_at [])) h;
 }
+
+module _ (g : Grammar) (nodes : List Node) (root : Goal) (rules : List ℕ) where
+  -- steps of a derivation with this list, of which so many are made and listed
+  pub record IsPartlyListed (rs : List Reduced) (left : List ℕ) (next : ℕ) (rest : List ℕ) (tasks : List Task) : Type 0 where
+    pub steps : List Step
+    pub placed : IsPartlyPlaced g nodes root rules steps rest tasks
+    pub listed : IsListed g nodes (run g nodes nothing steps) rs left
+    pub next_is : next ≡ (run g nodes nothing steps).next
+    pub small : next ≤ length rs + 1
+
+  pub listing_first : (rs : List Reduced) (left : List ℕ) (tasks before : List Task) → HasCover g nodes root rules → rs ≡ [] → left ≡ [] → before ≡ [] → tasks ≡ before ++ Derive root ∷ [] → IsPartlyListed rs left 1 rules tasks
+  listing_first rs left tasks before cover e h b t = record {
+    steps = [];
+    placed = subst (λ x. IsPartlyPlaced g nodes root rules [] rules x) (sym (t ∙ ap (λ x. x ++ Derive root ∷ []) b)) (placing_first g nodes root rules cover);
+    listed = listed_first g nodes rs left e h;
+    next_is = refl;
+    small = omega arith;
+  }
+
+  module _ (rs : List Reduced) (left : List ℕ) (next : ℕ) (rest : List ℕ) (tasks old : List Task) (p : IsPartlyListed rs left next rest old) where
+    pub listing_emit : (step : Step) (new : List Reduced) (after : List ℕ) (next' : ℕ) → old ≡ tasks ++ Emit step ∷ [] → IsAdded g step next next' rs new left after → IsPartlyListed new after next' rest tasks
+    listing_emit step new after next' e added =
+        let ran : run g nodes nothing (p.steps ++ step ∷ []) ≡ advance g nodes (run g nodes nothing p.steps) step = run-append g nodes nothing p.steps (step ∷ []) in
+        record {
+          steps = p.steps ++ step ∷ [];
+          placed = placing_emit g nodes root rules p.steps rest tasks old step e p.placed;
+          listed = subst (λ (x : Emissions). IsListed g nodes x new after) (sym ran) (listed_next g nodes step next next' (run g nodes nothing p.steps) rs new left after p.listed p.next_is added);
+          next_is = next_is g nodes step next next' (run g nodes nothing p.steps) rs new left after p.listed p.next_is added ∙ ap (λ (x : Emissions). x.next) (sym ran);
+          small = let low = next_small g step next next' rs new left after added in let more = ap length added.reductions_are in let s = p.small in omega (arith, low, more, s, length-append rs (added_one g step next left ∷ []));
+        }
+
+    pub listing_derive : (goal : Goal) (number : ℕ) (others : List ℕ) (new : List Task) → old ≡ tasks ++ Derive goal ∷ [] → rest ≡ number ∷ others
+        → new ≡ (tasks ++ Emit (step_at g nodes number goal.at) ∷ []) ++ map Derive (reverse (goals_at (rule_at g number) nodes goal.at)) → IsPartlyListed rs left next others new
+    listing_derive goal number others new e split pushed = record {
+      steps = p.steps;
+      placed = placing_derive g nodes root rules p.steps rest tasks old goal e p.placed number others new split pushed;
+      listed = p.listed;
+      next_is = p.next_is;
+      small = p.small;
+    }
+
+    pub none_left : (goal : Goal) → old ≡ tasks ++ Derive goal ∷ [] → rest ≡ [] → ⊥
+    none_left goal e none = number_left g nodes root rules p.steps rest tasks old goal e p.placed none
+
+  pub listing_end : (rs : List Reduced) (left : List ℕ) (next : ℕ) (rest : List ℕ) (tasks : List Task) → tasks ≡ [] → IsPartlyListed rs left next rest tasks → AreListed g nodes root rules rs left
+  listing_end rs left next rest tasks none p = record { steps = p.steps; placed = placing_end g nodes root rules p.steps rest tasks none p.placed; listed = p.listed }

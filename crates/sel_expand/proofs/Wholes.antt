@@ -18,7 +18,7 @@ use Rattle.sel_grammar.proofs.Words.{lists_are_words}
 use Rattle.sel_expand.specs.Expanding.{IsCovered, IsText, IsTooLong, IsEmitted}
 use Rattle.sel_expand.specs.Running.{run, nothing}
 use Rattle.sel_expand.specs.Sheets.{IsCut, IsWhole, shown}
-use Rattle.sel_expand.specs.Values.{text_at, lines_of, AreTexts, IsListed, IsReduced}
+use Rattle.sel_expand.specs.Values.{text_at, lines_of, AreTexts, IsListed, AreListed, IsReduced}
 use Rattle.sel_expand.specs.Printing.{AreAllPrinted}
 use Rattle.sel_expand.proofs.Emitting.{run_one, then_one}
 use Rattle.sel_expand.proofs.Sheets.{same_bytes, cut_long}
@@ -91,28 +91,27 @@ module _ (g : Grammar) (tree : Tree) (rules nodes-rules : List ℕ) (nodes : Lis
       (subst (λ m. HasCover g tree.nodes (record { at = m - 1; nonterminal = g.start }) nodes-rules) (sym long)
       (subst (λ x. HasCover g tree.nodes (root_goal g tree.nodes) x) (sym same-rules) (has_cover g tree rules is covered)))
 
-  module _ (steps listed-steps : List Step) (rs : List Reduced) (left : List ℕ) (same-steps : listed-steps ≡ steps) (placed : IsPlaced g nodes (record { at = n - 1; nonterminal = g.start }) nodes-rules steps)
-      (listed : (ns : List Node) → IsListed g ns (run g ns nothing listed-steps) rs left) where
-    all_placed : IsPlaced g tree.nodes (root_goal g tree.nodes) rules steps
-    all_placed =
-        subst (λ x. IsPlaced g tree.nodes (root_goal g tree.nodes) x steps) same-rules
-        (subst (λ m. IsPlaced g tree.nodes (record { at = m - 1; nonterminal = g.start }) nodes-rules steps) long
-        (subst (λ x. IsPlaced g x (record { at = n - 1; nonterminal = g.start }) nodes-rules steps) nodes-are placed))
-
-    all_listed : IsListed g tree.nodes (run g tree.nodes nothing steps) rs left
-    all_listed = subst (λ x. IsListed g tree.nodes (run g tree.nodes nothing x) rs left) same-steps (listed tree.nodes)
+  module _ (rs : List Reduced) (left : List ℕ) (listed : AreListed g nodes (record { at = n - 1; nonterminal = g.start }) nodes-rules rs left) where
+    all_listed : AreListed g tree.nodes (root_goal g tree.nodes) rules rs left
+    all_listed =
+        subst (λ x. AreListed g tree.nodes (root_goal g tree.nodes) x rs left) same-rules
+        (subst (λ m. AreListed g tree.nodes (record { at = m - 1; nonterminal = g.start }) nodes-rules rs left) long
+        (subst (λ x. AreListed g x (record { at = n - 1; nonterminal = g.start }) nodes-rules rs left) nodes-are listed))
 
     pub one_is_left : IsTree tree → IsCovered g tree rules → None ≡ slice_get left 0 → ⊥
     one_is_left (t, spelled, small) covered h =
         let (c, is) = covered t spelled in
-        some_left g tree.nodes rules steps rs left all_placed all_listed t spelled is.derivation is.derives is.list_is h
+        let all = all_listed in
+        some_left g tree.nodes rules all.steps rs left all.placed all.listed t spelled is.derivation is.derives is.list_is h
 
     pub reduced : (last : ℕ) → Some last ≡ slice_get left 0 → IsReduced g tree rules rs last
-    reduced last first = record {
-      texts = all_listed.texts;
-      are = all_listed.are;
-      whole = λ t d by. whole_is g tree.nodes rules steps rs left all_placed all_listed t by.spelled d by.derives by.listed last first;
-    }
+    reduced last first =
+        let all = all_listed in
+        record {
+          texts = all.listed.texts;
+          are = all.listed.are;
+          whole = λ t d by. whole_is g tree.nodes rules all.steps rs left all.placed all.listed t by.spelled d by.derives by.listed last first;
+        }
 
 -- the text with its temporaries apart has the bytes of the text
 pub is_emitted : (g : Grammar) (tree : Tree) (rules : List ℕ) (rs : List Reduced) (last : ℕ) (bytes : List ℕ) (text : Text) → IsReduced g tree rules rs last → IsText g tree rules bytes

@@ -8,12 +8,14 @@ use Rattle.sel_grammar.specs.Derivations.{Derivation}
 use Rattle.sel_grammar.specs.Expansions.{Text, Emissions, value_or_none, filled, is_instruction, has_result, expanded}
 use Rattle.sel_forest.specs.declared.forest.Node.{Node}
 use Rattle.sel_forest.specs.declared.forest.Tree.{Tree}
+use Rattle.sel_forest.specs.declared.walk.Goal.{Goal}
 use Rattle.sel_expand.specs.declared.places.Step.{Step}
 use Rattle.sel_expand.specs.declared.templates.Kind.{Kind}
 use Rattle.sel_expand.specs.declared.templates.Kind.TheVariants.{Named, Unnamed, Fragment}
 use Rattle.sel_expand.specs.Expanding.{IsDerivationBy}
 use Rattle.sel_expand.specs.Reductions.{Reduced}
-use Rattle.sel_expand.specs.Running.{attribute_at, parts_at}
+use Rattle.sel_expand.specs.Running.{attribute_at, parts_at, run, nothing}
+use Rattle.sel_expand.specs.Steps.{IsPlaced}
 
 -- an instruction that names its result, one that doesn't, or a fragment
 abbrev pub kind_of : List Part → Kind
@@ -73,6 +75,12 @@ pub record IsListed (g : Grammar) (nodes : List Node) (s : Emissions) (rs : List
   pub lines : lines_of g nodes texts rs ≡ s.lines
   pub inside : (k j : ℕ) → slice_get left k ≡ Some j → j < length rs
   pub values : map (text_at texts) left ≡ s.values
+
+-- the reductions are those of the steps of a derivation with this list
+pub record AreListed (g : Grammar) (nodes : List Node) (root : Goal) (rules : List ℕ) (rs : List Reduced) (left : List ℕ) : Type 0 where
+  pub steps : List Step
+  pub placed : IsPlaced g nodes root rules steps
+  pub listed : IsListed g nodes (run g nodes nothing steps) rs left
 
 -- the reductions are those of the cover's derivation, and the last one's value stands behind all lines
 pub record IsReduced (g : Grammar) (tree : Tree) (rules : List ℕ) (rs : List Reduced) (last : ℕ) : Type 0 where

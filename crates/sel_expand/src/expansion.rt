@@ -8,8 +8,7 @@ ghost use Rattle.sel_expand.specs.Pieces.{pieces_text, AreNumbered};
 ghost use Rattle.sel_expand.specs.declared.cutting.Piece.{Piece};
 
 use crate::cutting::{Piece, cut};
-use crate::listing::list_all;
-use crate::places::{Step, Task, place_all};
+use crate::places::{Task, list_all};
 use crate::printing::{Frame, print_all};
 use crate::reductions::Reductions;
 use crate::sheet::Span;
@@ -34,7 +33,6 @@ pub enum Expansion {
 pub struct Expander {
     goals: Vec<Goal>,
     tasks: Vec<Task>,
-    steps: Vec<Step>,
     reductions: Reductions,
     left: Vec<usize>,
     spans: Vec<Option<Span>>,
@@ -49,7 +47,6 @@ impl Expander {
         Expander {
             goals: Vec::new(alloc),
             tasks: Vec::new(alloc),
-            steps: Vec::new(alloc),
             reductions: Reductions::new(alloc),
             left: Vec::new(alloc),
             spans: Vec::new(alloc),
@@ -69,18 +66,13 @@ impl Expander {
             at: tree.nodes.len() - 1,
             nonterminal: grammar.start,
         };
-        place_all(
+        list_all(
             grammar,
             tree.nodes.as_slice(),
             root,
             cover.rules.as_slice(),
             &mut self.goals,
             &mut self.tasks,
-            &mut self.steps,
-        )?;
-        list_all(
-            grammar,
-            self.steps.as_slice(),
             &mut self.reductions,
             &mut self.left,
         )?;

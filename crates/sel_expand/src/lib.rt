@@ -3,7 +3,6 @@
 
 mod cutting;
 mod expansion;
-mod listing;
 mod places;
 mod printing;
 mod reductions;

@@ -1,5 +1,5 @@
 //! The reductions of a cover: its rules with their nodes and kids.
-ghost use Rattle.std.specs.Prelude.{◌≡◌, ◌≤◌, ◌++◌, ◌∷◌, [], length, slice_get, slice_range, OnOk};
+ghost use Rattle.std.specs.Prelude.{◌≡◌, ◌≤◌, ◌<◌, ◌^◌, ◌++◌, ◌∷◌, [], length, slice_get, slice_range, OnOk, OnErr};
 ghost use Rattle.sel_expand.specs.Reductions.{own_of, kids_of};
 
 use crate::templates::Kind;
@@ -69,6 +69,24 @@ fn part_of(kids: &[usize], start: usize, end: usize) -> &[usize]
     &kids[start..end]
 }
 
+/// Puts more kids behind the others. Mostly they are none or one.
+fn put_kids(kids: &mut Vec<usize>, more: &[usize]) -> Result<(), NoMemory>
+    ensures ok { OnOk result (kids.new.items ≡ kids.old.items ++ more.now) }
+    ensures err { OnErr result (kids.new.items ≡ kids.old.items) }
+{
+    match more {
+        [] => Ok(()),
+        [kid] => {
+            kids.push(*kid)?;
+            Ok(())
+        }
+        _ => {
+            kids.extend_from_slice(more)?;
+            Ok(())
+        }
+    }
+}
+
 impl Reductions {
     /// No reductions. It asks for no memory.
     pub fn new(alloc: Global) -> Reductions
@@ -89,7 +107,8 @@ impl Reductions {
     }
 
     pub fn len(&self) -> usize
-        ensures { result ≡ length self.now }
+        ensures count { result ≡ length self.now }
+        ensures few { result < 2 ^ 63 }
     {
         self.slots.len()
     }
@@ -118,7 +137,7 @@ impl Reductions {
         ensures { OnOk result (self.new ≡ self.old ++ record { own = own; kids = kids.now } ∷ []) }
     {
         let start = self.kids.len();
-        self.kids.extend_from_slice(kids)?;
+        put_kids(&mut self.kids, kids)?;
         let end = self.kids.len();
         self.slots.push(Slot { own, start, end })?;
         Ok(())

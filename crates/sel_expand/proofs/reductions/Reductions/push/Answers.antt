@@ -6,16 +6,16 @@ use Rattle.sel_expand.proofs.reductions.Reductions.push.Goals as goal
 
 pub invariant_of-self-in_err-push : goal.invariant_of-self-in_err-push
 invariant_of-self-in_err-push c =
-    subst (λ x. AreWithin c.extend_from_slice.new.self.items x) (sym (c.in_err-push.ensures).items)
-    (still_within c.self.inside.kids.items c.args.kids.now c.extend_from_slice.new.self.items c.self.inside.slots.items c.self.invariant c.in_ok-extend_from_slice.ensures.items)
+    subst (λ x. AreWithin c.put_kids.new.kids.items x) (sym (c.in_err-push.ensures).items)
+    (still_within c.self.inside.kids.items c.args.kids.now c.put_kids.new.kids.items c.self.inside.slots.items c.self.invariant c.in_ok-put_kids.ensures.ok)
 
 pub invariant_of-self-2 : goal.invariant_of-self-2
 invariant_of-self-2 c =
-    pushed_within c.self.inside.kids.items c.args.kids.now c.extend_from_slice.new.self.items c.self.inside.slots.items c.push.new.self.items c.args.own c.len-start.result c.len-end.result
-    c.self.invariant c.in_ok-extend_from_slice.ensures.items (omega (arith, c.len-start.ensures)) (omega (arith, c.len-end.ensures)) c.in_ok-push.ensures.items
+    pushed_within c.self.inside.kids.items c.args.kids.now c.put_kids.new.kids.items c.self.inside.slots.items c.push.new.self.items c.args.own c.len-start.result c.len-end.result
+    c.self.invariant c.in_ok-put_kids.ensures.ok (omega (arith, c.len-start.ensures)) (omega (arith, c.len-end.ensures)) c.in_ok-push.ensures.items
 
 pub returns : goal.returns
 returns c =
-    pushed_reduced c.self.inside.kids.items c.args.kids.now c.extend_from_slice.new.self.items c.self.inside.slots.items c.push.new.self.items c.args.own c.len-start.result c.len-end.result
-    c.self.invariant c.in_ok-extend_from_slice.ensures.items (omega (arith, c.len-start.ensures)) (omega (arith, c.len-end.ensures)) c.in_ok-push.ensures.items
+    pushed_reduced c.self.inside.kids.items c.args.kids.now c.put_kids.new.kids.items c.self.inside.slots.items c.push.new.self.items c.args.own c.len-start.result c.len-end.result
+    c.self.invariant c.in_ok-put_kids.ensures.ok (omega (arith, c.len-start.ensures)) (omega (arith, c.len-end.ensures)) c.in_ok-push.ensures.items
     ∙ ap (λ x. x ++ record { own = c.args.own; kids = c.args.kids.now } ∷ []) c.self.view_is
