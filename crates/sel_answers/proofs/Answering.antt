@@ -5,9 +5,9 @@ use Rattle.sel_forest.specs.declared.forest.Tree.{Tree}
 use Rattle.sel_work.specs.declared.answer.Answer.{Answer}
 use Rattle.sel_work.specs.declared.answer.Goal.{Goal}
 use Rattle.sel_count.specs.Things.{AreValid}
-use Rattle.sel_crew.specs.Answers.{AreAnswersOf, IsAnswerOf}
+use Rattle.sel_crew.specs.Answers.{AreAnswersOf}
 use Rattle.sel_answers.proofs.TreeLists.{valid_head, valid_tail}
-use Rattle.sel_answers.specs.Output.{AreAnswers, IsTreesAnswer, answer_text, answers_text}
+use Rattle.sel_answers.specs.Output.{AreAnswers, answer_text, answers_text}
 
 -- the answers of trees, one behind the other
 pub answers-append : (g : Grammar) (goal : Goal) (trees more : List Tree) (answers others : List Answer)

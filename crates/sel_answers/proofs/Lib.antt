@@ -2,3 +2,4 @@ pub mod Answering
 pub mod MoreSums
 pub mod TableTexts
 pub mod TreeLists
+pub mod Digits

@@ -1,15 +1,11 @@
 -- What is told of a table.
-use Rattle.std.proofs.Common.{◌≡◌, ℕ, Bool, true, false, List, length, refl, sym, ap, ◌∙◌}
+use Rattle.std.proofs.Common.{◌≡◌, ℕ, Bool, true, false, List, length, refl, ap, ◌∙◌}
 use Rattle.sel_grammar.specs.declared.grammar.Grammar.{Grammar}
 use Rattle.sel_forest.specs.declared.forest.Tree.{Tree}
-use Rattle.sel_normal.specs.NormalForms.{NormalForm}
-use Rattle.sel_items.specs.Laws.{IsAcceptedForm}
-use Rattle.sel_count.specs.ClosedTables.{ClosedTable}
-use Rattle.sel_count.specs.Counted.{IsWholeTable}
 use Rattle.sel_count.specs.Counts.{CountIs}
-use Rattle.sel_count.specs.Things.{AreValid, IsTabledItems, IsTabledKey}
+use Rattle.sel_count.specs.Things.{IsTabledItems, IsTabledKey}
 use Rattle.sel_count.proofs.Existence.{counts_exist}
-use Rattle.sel_answers.specs.Output.{IsToldBy, counts_text, marks_text}
+use Rattle.sel_answers.specs.Output.{IsToldBy, counts_text}
 use Rattle.sel_answers.specs.Reported.{marked_text}
 use Rattle.sel_answers.specs.Laws.{TablesAreTold}
 

@@ -1,5 +1,5 @@
 -- Lists of valid trees, taken apart and put together.
-use Rattle.std.proofs.Common.{◌≡◌, ℕ, suc, ◌+◌, ◌<◌, List, [], ◌∷◌, ◌++◌, length, refl, arith, inl, inr, ◌⊎◌}
+use Rattle.std.proofs.Common.{suc, List, ◌∷◌, refl, arith}
 use Rattle.std.specs.List.{Contains}
 use Rattle.sel_grammar.specs.declared.grammar.Grammar.{Grammar}
 use Rattle.sel_forest.specs.declared.forest.Tree.{Tree}

@@ -1,5 +1,5 @@
 // The answer of a tree, as text.
-ghost use Rattle.std.specs.Prelude.{◌≡◌, ◌<◌, ◌+◌, ◌^◌, ◌++◌, length, OnOk, not, ◌==◌};
+ghost use Rattle.std.specs.Prelude.{◌≡◌, ◌<◌, ◌+◌, ◌^◌, ◌++◌, length, OnOk, not, ◌==◌, decimal};
 ghost use Rattle.std.specs.List.{list_all, list_any};
 ghost use Rattle.sel_answers.specs.Output.{answer_text, answers_text, told_text, cost_line, cost_text, spaced, line_end_behind, is_covered, has_second_costs};
 
@@ -32,16 +32,32 @@ fn put_cost_line(text: &mut Vec<u8>, second: bool, cost: Pair) -> Result<(), NoM
     Ok(())
 }
 
+// Puts the number of a rule, which mostly has one or two digits.
+fn put_rule(text: &mut Vec<u8>, rule: u16) -> Result<(), NoMemory>
+    ensures { OnOk result (text.new.items ≡ text.old.items ++ decimal rule) }
+{
+    if rule < 10 {
+        text.push(b'0' + rule as u8)?;
+        Ok(())
+    } else if rule < 100 {
+        text.push(b'0' + (rule / 10) as u8)?;
+        text.push(b'0' + (rule % 10) as u8)?;
+        Ok(())
+    } else {
+        put_number(text, rule as u64)
+    }
+}
+
 fn put_rules(text: &mut Vec<u8>, rules: &[u16]) -> Result<(), NoMemory>
     ensures { OnOk result (text.new.items ≡ text.old.items ++ spaced rules.now) }
 {
     let Some((first, rest)) = rules.split_first() else {
         return Ok(());
     };
-    put_number(text, *first as u64)?;
+    put_rule(text, *first)?;
     'rules: for rule in rest {
-        put(text, b" ")?;
-        put_number(text, *rule as u64)?;
+        text.push(b' ')?;
+        put_rule(text, *rule)?;
     }
     Ok(())
 }
