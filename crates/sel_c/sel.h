@@ -54,7 +54,7 @@ struct sel {
 };
 #define SEL_NONE {false, NULL}
 
-/* Takes up the grammar that the text spells. The text is not kept. On a refusal the handle stays as it was. */
+/* Takes up the grammar that the text spells, or a shipped one by its name: @rv64i, @aarch64 or @x86-64. The text is not kept. On a refusal the handle stays as it was. */
 struct sel_answer sel_open(struct sel *sel, const uint8_t *text, size_t text_len);
 
 /* Frees what the handle holds, and leaves SEL_NONE. A closed one stays closed. */

@@ -27,7 +27,7 @@ def main():
     library = os.path.join(folder, 'refuse.so')
     subprocess.run(['cc', '-O2', '-shared', '-fPIC', '-o', library, os.path.join(refusals.HERE, 'refuse.c'), '-ldl'], check=True)
     runs, wrong = 0, []
-    for words in refusals.commands(folder):
+    for words in refusals.commands(program, folder):
         counts = os.path.join(folder, 'counts')
         refusals.run(program, library, words, counts=counts)
         count = int(open(counts).read().split()[0])

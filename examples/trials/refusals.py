@@ -20,7 +20,7 @@ import made
 EXAMPLES = os.path.join(HERE, '..')
 
 
-def commands(folder):
+def commands(program, folder):
     start, rules = made.read_grammar(open(os.path.join(EXAMPLES, 'targets', 'x86-64.grammar')).read())
     forest = os.path.join(folder, 'made.forest')
     with open(forest, 'w') as out:
@@ -28,10 +28,15 @@ def commands(folder):
             print(line, file=out)
     store = [os.path.join(EXAMPLES, name) for name in ('store.grammar', 'store.forest')]
     for workers in ('1', '4'):
-        for mode in ('cover', 'select', 'summary', 'print'):
+        for mode in ('cover', 'select', 'regs', 'summary', 'print', 'certify'):
             yield [mode, *store, '--workers', workers]
             yield [mode, '@x86-64', forest, '--workers', workers]
         yield ['make', '@x86-64', '--trees', '50', '--workers', workers]
+    for name, texts in (('store', store), ('made', ['@x86-64', forest])):
+        certificate = os.path.join(folder, f'{name}.certificate')
+        with open(certificate, 'wb') as out:
+            subprocess.run([program, 'certify', *texts], stdout=out)
+        yield ['check', *texts, certificate]
     yield ['print', store[0]]
     yield ['cover', store[0]]
 
@@ -48,7 +53,7 @@ def main():
     subprocess.run(['cc', '-O2', '-shared', '-fPIC', '-o', library, os.path.join(HERE, 'refuse.c'), '-ldl'], check=True)
     tried, told = dict.fromkeys(('growth', 'read', 'write'), 0), 0
     wrong = []
-    for words in commands(folder):
+    for words in commands(program, folder):
         whole = run(program, library, words)
         counts = os.path.join(folder, 'counts')
         run(program, library, words, counts=counts)

@@ -1,4 +1,4 @@
 mod BareSteps
-mod TableSteps
 mod Naming
+mod TableSteps
 mod Telling

@@ -10,13 +10,13 @@ use Rattle.sel_work.specs.declared.answer.Goal.{Goal}
 use Rattle.sel_c.specs.declared.told.Told.{Told}
 use Rattle.sel_c.specs.declared.accepted.Accepted.{Accepted}
 use Rattle.sel_c.specs.Answers.{TellsOfLine, TellsOfHeldLine}
-use Rattle.sel_c.specs.Openings.{IsUnopened, unopened_by, OpensClosed, TellsOfOpening}
+use Rattle.sel_c.specs.Openings.{IsUnopened, unopened_by, OpensClosed, TellsOfOpening, text_taken}
 
 pub held_line : (held : Option Accepted) (a : Accepted) (goal : Goal) (text old new : List ℕ) (told : Told) (Tells : Answer → Type 0) → held ≡ Some a
     → TellsOfLine a.grammar goal text old new told Tells → TellsOfHeldLine held goal text old new told Tells
 held_line held a goal text old new told Tells is tells = subst (λ (o : Option Accepted). TellsOfHeldLine o goal text old new told Tells) (sym is) tells
 
-pub opening : (text : List ℕ) (old new : Option Accepted) (told : Told) → is_some old ≡ false → OpensClosed text new told → TellsOfOpening text old new told
+pub opening : (text : List ℕ) (old new : Option Accepted) (told : Told) → is_some old ≡ false → OpensClosed (text_taken text) new told → TellsOfOpening text old new told
 opening text None new told none opens = opens
 opening text (Some a) new told none opens = absurd (cc)
 

@@ -1,5 +1,7 @@
 -- What a call tells that takes up a grammar.
-use Rattle.std.specs.Prelude.{◌≡◌, ℕ, ◌<◌, ◌⊎◌, List, length, Option, Some, None}
+use Rattle.std.specs.Prelude.{◌≡◌, ℕ, ◌<◌, ◌⊎◌, ◌==◌, if◌then◌else◌, List, [], ◌∷◌, length, Option, Some, None, unwrap_or}
+use Rattle.sel_base.specs.Ascii.{at_sign}
+use Rattle.sel_targets.specs.TargetText.{target_text}
 use Rattle.sel_grammar.specs.declared.grammar.Grammar.{Grammar}
 use Rattle.sel_grammar.specs.declared.refusal.GrammarFault.{GrammarFault}
 use Rattle.sel_grammar.specs.declared.refusal.GrammarRefusal.{GrammarRefusal}
@@ -12,6 +14,15 @@ use Rattle.sel_c.specs.declared.opening.Unopened.{Unopened}
 use Rattle.sel_c.specs.declared.opening.Unopened.TheVariants.{Fault, TooBig, NoMemory}
 use Rattle.sel_c.specs.Codes as codes
 use Rattle.sel_c.specs.Codes.{told_code, told_fault}
+
+-- the shipped grammar's text whose name stands behind `@`, and none where the text doesn't begin so
+abbrev pub shipped_text : List ℕ → Option (List ℕ)
+shipped_text [] = None
+shipped_text (first ∷ rest) = if first == at_sign then target_text rest else None
+
+-- the text that is taken up: the one that is shipped under this name, and else the text itself
+abbrev pub text_taken : List ℕ → List ℕ
+text_taken text = unwrap_or (shipped_text text) text
 
 -- the greatest length of a grammar's text, in bytes
 abbrev pub grammar_limit : ℕ
@@ -50,7 +61,7 @@ pub data OpensClosed (text : List ℕ) (new : Option Accepted) (told : Told) : T
   opened : (a : Accepted) → new ≡ Some a → IsNewSelector text a → told ≡ told_code codes.done → OpensClosed text new told
   refused : (why : Unopened) → IsUnopened text why → new ≡ None → told ≡ told_unopened why → OpensClosed text new told
 
--- What is told of an opening by the text, where `old` and `new` are what the handle holds.
+-- What is told of an opening by the text, or by a shipped grammar's name, where `old` and `new` are what the handle holds.
 abbrev pub TellsOfOpening : List ℕ → Option Accepted → Option Accepted → Told → Type 0
-TellsOfOpening text None new told = OpensClosed text new told
+TellsOfOpening text None new told = OpensClosed (text_taken text) new told
 TellsOfOpening text (Some a) new told = (new ≡ Some a) × (told ≡ told_code codes.is_open)
