@@ -22,4 +22,5 @@ pub mod Walking
 pub mod Leading
 pub mod Rereading
 pub mod Numerals
+pub mod ByteTable
 pub mod Reprinting

@@ -1,10 +1,11 @@
 -- Numbers without needless zeros are their own print.
-use Rattle.std.proofs.Common.{◌≡◌, ℕ, zero, suc, ◌+◌, ◌≤◌, ◌<◌, ◌==◌, ◌^◌, nat_lt, nat_le, Bool, true, false, List, [], ◌∷◌, refl, ap, sym, ◌∙◌, subst, arith, length, pos, neg_ℤ, if◌then◌else◌}
+use Rattle.std.proofs.Common.{◌≡◌, ℕ, zero, suc, ◌+◌, ◌-◌, ◌*◌, ◌≤◌, ◌<◌, ◌⊎◌, inl, inr, drop, ◌==◌, ◌^◌, nat_lt, nat_le, Bool, true, false, List, [], ◌∷◌, refl, ap, sym, ◌∙◌, subst, arith, length, pos, neg_ℤ, if◌then◌else◌}
 use Rattle.std.specs.Prelude.{get_or}
 use Rattle.std.specs.Fmt.{decimal, signed_decimal}
-use Rattle.std.specs.Str.Parse.{digits_value, AllDigits}
+use Rattle.std.specs.Str.Parse.{digits_value, digits_value_after, AllDigits}
+use Rattle.sel_base.proofs.DigitValues.{value_from}
 use Rattle.std.proofs.lemmas.Fmt.{decimal_digit, decimal-digits_value}
-use Rattle.std.proofs.lemmas.Str.Parse.{IsNumeralModel}
+use Rattle.std.proofs.lemmas.Str.Parse.{IsNumeralModel, digits_value_short}
 use Rattle.sel_forest.specs.LineFaults.{is_too_large}
 use Rattle.sel_forest.specs.Reprinting.{is_above_zero, is_in_print}
 use Rattle.sel_forest.specs.TreeText.{is_negative, without_sign, value_of}
@@ -42,3 +43,35 @@ in_print (b ∷ bytes) h small k = go (b == 45) refl h small k
     go false e h small k =
         let v = digits_value 10 (b ∷ bytes) in
         sym (digits_in_print (b ∷ bytes) h k (let l = not_le (2 ^ 63) v small in omega (arith, l)))
+
+below_lt : (a b : ℕ) → b ≤ a → nat_lt a b ≡ false
+below_lt a b h = grind arith
+
+below_le : (a b : ℕ) → b < a → nat_le a b ≡ false
+below_le a b h = grind arith
+
+-- few digits write no number that is too large
+pub few_digits : (bytes : List ℕ) → AllDigits 10 (without_sign bytes) → length bytes ≤ 18 → is_too_large bytes ≡ false
+few_digits [] h few = refl
+few_digits (b ∷ bytes) h few = go (b == 45) refl h
+  where
+    go : (x : Bool) → (b == 45) ≡ x → AllDigits 10 (if x then bytes else (b ∷ bytes))
+        → (if x then nat_lt (2 ^ 63) (digits_value 10 (if x then bytes else (b ∷ bytes))) else nat_le (2 ^ 63) (digits_value 10 (if x then bytes else (b ∷ bytes)))) ≡ false
+    go true e h = let small = digits_value_short numerals bytes 18 h (omega (arith, few)) in below_lt (2 ^ 63) (digits_value 10 bytes) (omega (arith, small))
+    go false e h = let small = digits_value_short numerals (b ∷ bytes) 18 h few in below_le (2 ^ 63) (digits_value 10 (b ∷ bytes)) (omega (arith, small))
+
+at_most_or_more : (a b : ℕ) → (a ≤ b) ⊎ (b < a)
+at_most_or_more a b = grind arith
+
+-- the number that a few digits write is still small behind one digit more
+pub few_more : (n i : ℕ) (digits : List ℕ) → AllDigits 10 digits → length digits ≤ 18 → i < length digits → digits_value_after 10 n (drop i digits) ≡ digits_value 10 digits
+    → AllDigits 10 (drop i digits) → n * 10 + (get_or digits i 0 - 48) < 10 ^ 18
+few_more n i digits all few h e rest =
+    let small : digits_value 10 digits < 10 ^ 18 = digits_value_short numerals digits 18 all few in
+    elim (at_most_or_more (n * 10 + (get_or digits i 0 - 48)) (digits_value 10 digits)) [
+      | inl le ↦ omega (arith, le, small)
+      | inr lt ↦ absurd (omega (arith, value_from (digits_value 10 digits) n i digits h e rest lt))
+    ]
+
+pub few_value : (digits : List ℕ) → AllDigits 10 digits → length digits ≤ 18 → digits_value 10 digits < 10 ^ 18
+few_value digits all few = digits_value_short numerals digits 18 all few

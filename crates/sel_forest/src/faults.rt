@@ -1,12 +1,13 @@
 //! What may be wrong with a token of a line.
 
 ghost use Rattle.std.specs.Prelude.{◌≡◌, ℕ, List, Some, None, if◌then◌else◌};
+ghost use Rattle.std.specs.Str.Parse.{AllDigits};
 ghost use Rattle.sel_forest.specs.LineFaults as faults;
 ghost use Rattle.sel_forest.specs.Limits as limits;
 ghost use Rattle.sel_forest.specs.Tokens.{Open, Comma, Close, End};
 ghost use Rattle.sel_forest.specs.OpenNodes.{first_parent};
 ghost use Rattle.sel_forest.specs.Pieces.{view, IsLawful, IsNamedBy};
-ghost use Rattle.sel_forest.specs.TreeText.{operator_number};
+ghost use Rattle.sel_forest.specs.TreeText.{operator_number, without_sign};
 ghost use Rattle.sel_forest.specs.declared.around.Parent.{Parent as AnyParent};
 
 use crate::around::{Around, Parent};
@@ -14,7 +15,7 @@ use crate::limits::{
     ARITY, GREATEST_DEPTH, MOST_NODES, MOST_TREES, NUMBER_LARGE, TOO_DEEP, TOO_MANY_NODES,
     TOO_MANY_TREES, UNKNOWN_OPERATOR,
 };
-use crate::number::number;
+use crate::number::{FEW, number};
 use crate::tokens::Piece;
 use sel_grammar::Grammar;
 
@@ -112,7 +113,7 @@ fn end_is_wrong(grammar: &Grammar, around: &Around) -> bool
 fn name_kind(grammar: &Grammar, trees: usize, around: &Around, operator: usize) -> Option<u8>
     ensures { (name : List ℕ) → operator_number grammar.now name ≡ operator → result ≡ faults.name_kind grammar.now trees around.now name }
 {
-    if trees >= MOST_TREES && around.names() == 0 {
+    if around.names() == 0 && trees >= MOST_TREES {
         Some(TOO_MANY_TREES)
     } else if around.depth() >= GREATEST_DEPTH {
         Some(TOO_DEEP)
@@ -122,6 +123,22 @@ fn name_kind(grammar: &Grammar, trees: usize, around: &Around, operator: usize) 
         Some(UNKNOWN_OPERATOR)
     } else {
         None
+    }
+}
+
+/// The kind where the number is too large.
+#[inline(always)]
+#[tactic(auto, using(crate::proofs::Numerals::few_digits))]
+fn number_kind(bytes: &[u8]) -> Option<u8>
+    requires { AllDigits 10 (without_sign bytes.now) }
+    ensures { result ≡ (if faults.is_too_large bytes.now then Some limits.number_large else None) }
+{
+    if bytes.len() <= FEW {
+        return None;
+    }
+    match number(bytes) {
+        None => Some(NUMBER_LARGE),
+        Some(_) => None,
     }
 }
 
@@ -141,10 +158,7 @@ pub fn kind_of(
 {
     match piece {
         Piece::Name(_) => name_kind(grammar, trees, around, operator),
-        Piece::Number(bytes) => match number(bytes) {
-            None => Some(NUMBER_LARGE),
-            Some(_) => None,
-        },
+        Piece::Number(bytes) => number_kind(bytes),
         Piece::Open => arity_kind(open_is_wrong(grammar, around)),
         Piece::Comma => arity_kind(comma_is_wrong(grammar, around)),
         Piece::Close => arity_kind(close_is_wrong(grammar, around)),

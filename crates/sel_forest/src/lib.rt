@@ -4,6 +4,7 @@
 mod around;
 mod build;
 mod check;
+mod classes;
 mod faults;
 mod forest;
 mod guess;

@@ -1,11 +1,39 @@
 //! Signed decimal numbers.
 
-ghost use Rattle.std.specs.Prelude.{◌≡◌, ℕ, ◌≤◌, ◌<◌, ◌^◌, MatchOption, true, false, pos, neg_ℤ};
+ghost use Rattle.std.specs.Prelude.{◌≡◌, ℕ, ◌≤◌, ◌<◌, ◌^◌, length, MatchOption, true, false, pos, neg_ℤ};
 ghost use Rattle.std.specs.Str.Parse.{digits_value, AllDigits};
 ghost use Rattle.sel_forest.specs.TreeText.{is_negative, without_sign, value_of};
 ghost use Rattle.sel_forest.specs.LineFaults.{is_too_large};
 
-use sel_base::digits::number as magnitude;
+use sel_base::digits::number as many;
+
+/// So many bytes, or fewer, write a number that isn't too large.
+pub const FEW: usize = 18;
+
+/// The number that a few digits write.
+fn few(digits: &[u8]) -> u64
+    requires digits { AllDigits 10 digits.now }
+    requires few { length digits.now ≤ 18 }
+    ensures { result ≡ digits_value 10 digits.now }
+{
+    let mut value: u64 = 0;
+    'digits: for digit in digits {
+        value = value * 10 + (*digit - b'0') as u64;
+    }
+    value
+}
+
+/// The number that the digits write, where it is at most the limit, which is above what a few digits write.
+fn magnitude(digits: &[u8], limit: u64) -> Option<u64>
+    requires digits { AllDigits 10 digits.now }
+    requires limit { 10 ^ 18 ≤ limit }
+    ensures { MatchOption result (limit < digits_value 10 digits.now) (λ n. (n ≡ digits_value 10 digits.now) × (n ≤ limit)) }
+{
+    if digits.len() <= FEW {
+        return Some(few(digits));
+    }
+    many(digits, limit)
+}
 
 fn positive(digits: &[u8]) -> Option<i64>
     requires { AllDigits 10 digits.now }

@@ -6,26 +6,8 @@ ghost use Rattle.sel_forest.specs.Symbols as symbols;
 ghost use Rattle.sel_forest.specs.Tokens as tokens;
 ghost use Rattle.sel_forest.specs.Pieces.{view};
 
+use crate::classes::{is_blank, is_letter, is_name_byte, is_symbol_byte, is_symbol_start};
 use sel_base::digits::digits_len;
-use sel_grammar::names::{is_letter, is_name_byte};
-
-fn is_blank(b: u8) -> bool
-    ensures { result ≡ symbols.is_blank b }
-{
-    b == b' ' || b == b'\t' || b == b'\r' || b == 12
-}
-
-fn is_symbol_start(b: u8) -> bool
-    ensures { result ≡ symbols.is_symbol_start b }
-{
-    is_letter(b) || b == b'.' || b == b'$' || b == b'@'
-}
-
-fn is_symbol_byte(b: u8) -> bool
-    ensures { result ≡ symbols.is_symbol_byte b }
-{
-    is_symbol_start(b) || b.is_ascii_digit()
-}
 
 /// How many bytes at the front are blanks.
 fn blanks(bytes: &[u8]) -> usize
