@@ -9,14 +9,12 @@ ghost use Rattle.sel_forest.specs.OpenNodes.{attached, Opened, opened_next, Hold
 ghost use Rattle.sel_forest.specs.Pieces.{view, IsLawful, IsNamedBy};
 
 use crate::forest::{Node, Tree};
-use crate::limits::MOST_NODES;
 use crate::number::number;
 use crate::taker::Taker;
 use crate::tokens::Piece;
 use sel_base::{List, NoMemory};
 use sel_grammar::Attribute;
 use std::alloc::Global;
-use std::mem;
 
 fn attach(node: &mut Node, at: u32)
     ensures { node.new ≡ attached node.old at }
@@ -99,27 +97,8 @@ fn take(
     }
 }
 
-/// How many parentheses open and how many commas stand on the line.
-fn kids_within(line: &[u8]) -> usize
-    ensures { result ≤ length line.now }
-{
-    let mut count: usize = 0;
-    'bytes: for b in line {
-        count += (*b == b'(' || *b == b',') as usize;
-    }
-    count
-}
-
-/// Room for the nodes of the line's tree: the root, and a node behind each parenthesis and comma.
-fn room(alloc: Global, line: &[u8]) -> Result<Vec<Node>, NoMemory>
-    ensures { IfOk result (λ nodes. nodes.items ≡ []) }
-{
-    let nodes = Vec::with_capacity(alloc, kids_within(line).min(MOST_NODES - 1) + 1)?;
-    Ok(nodes)
-}
-
 /// Builds the trees of a text. The stack has the open nodes of a line, and the nodes are those that
-/// are whole.
+/// are whole: both keep their room from line to line.
 #[derive(Drop)]
 pub struct TreeBuilder {
     alloc: Global,
@@ -147,14 +126,15 @@ impl TreeBuilder {
         self.trees
     }
 
-    /// The root ends with its line: the nodes and it are the tree.
+    // The root ends with its line: the nodes and it are the tree, which gets the room that they take.
     fn finish(&mut self) -> Result<(), NoMemory>
         ensures { (root : AnyNode) → self.old.stack.items ≡ root ∷ [] → OnOk result ((self.new.stack.items ≡ []) × (self.new.nodes.items ≡ [])
             × (self.new.trees ≡ self.old.trees ++ record { nodes = self.old.nodes.items ++ (root ∷ []) } ∷ [])) }
     {
         if let Some(root) = self.stack.pop() {
             self.nodes.push(root)?;
-            let nodes = mem::replace(&mut self.nodes, Vec::new(self.alloc));
+            let mut nodes = Vec::with_capacity(self.alloc, self.nodes.len())?;
+            nodes.append(&mut self.nodes)?;
             self.trees.push(Tree {
                 nodes: List::from_vec(nodes),
             })?;
@@ -166,9 +146,7 @@ impl TreeBuilder {
 impl Taker for TreeBuilder {
     ghost took = { λ builder g trees ts. HasBuilt g builder trees ts };
 
-    // The nodes get the room that they take, and no more.
-    fn begin(&mut self, line: &[u8]) -> Result<(), NoMemory> {
-        self.nodes = room(self.alloc, line)?;
+    fn begin(&mut self, _: &[u8]) -> Result<(), NoMemory> {
         Ok(())
     }
 

@@ -1,6 +1,6 @@
 //! The tokens of a line.
 
-ghost use Rattle.std.specs.Prelude.{◌≡◌, ℕ, ◌≤◌, length, take, drop};
+ghost use Rattle.std.specs.Prelude.{◌≡◌, ◌∷◌, ℕ, ◌≤◌, true, length, take, drop};
 ghost use Rattle.std.specs.List.{prefix_len};
 ghost use Rattle.sel_forest.specs.Symbols as symbols;
 ghost use Rattle.sel_forest.specs.Tokens as tokens;
@@ -58,6 +58,21 @@ fn mark<'a>(b: u8) -> Piece<'a>
     }
 }
 
+/// The token at a minus sign, where a number or a symbol is meant. The rest stands behind the sign.
+#[inline(always)]
+fn signed<'a>(bytes: &'a [u8], rest: &[u8]) -> Piece<'a>
+    requires { bytes.now ≡ 45 ∷ rest.now }
+    ensures token { view result ≡ tokens.token_of true bytes.now }
+    ensures fits { tokens.width (view result) ≤ length bytes.now }
+{
+    let count = digits_len(rest);
+    if count > 0 {
+        Piece::Number(&bytes[..1 + count])
+    } else {
+        Piece::Bad(b'-')
+    }
+}
+
 /// The token at the front of the bytes, which begin with no blank. Behind a colon a number or a symbol is meant.
 #[inline(always)]
 fn token_at(attribute: bool, bytes: &[u8]) -> Piece<'_>
@@ -72,8 +87,8 @@ fn token_at(attribute: bool, bytes: &[u8]) -> Piece<'_>
             Piece::Symbol(&bytes[..symbol_len(bytes)])
         } else if first.is_ascii_digit() {
             Piece::Number(&bytes[..digits_len(bytes)])
-        } else if *first == b'-' && digits_len(rest) > 0 {
-            Piece::Number(&bytes[..1 + digits_len(rest)])
+        } else if *first == b'-' {
+            signed(bytes, rest)
         } else {
             mark(*first)
         }
@@ -103,6 +118,20 @@ pub struct Found<'a> {
     pub behind: &'a [u8],
 }
 
+/// The bytes from the first on that is no blank.
+#[inline(always)]
+fn skip(bytes: &[u8]) -> &[u8]
+    ensures { result.now ≡ tokens.skip bytes.now }
+{
+    let Some(first) = bytes.first() else {
+        return bytes;
+    };
+    if !is_blank(*first) {
+        return bytes;
+    }
+    &bytes[blanks(bytes)..]
+}
+
 /// The next token, blanks left out.
 #[inline(always)]
 pub fn next_token(attribute: bool, bytes: &[u8]) -> Found<'_>
@@ -110,7 +139,7 @@ pub fn next_token(attribute: bool, bytes: &[u8]) -> Found<'_>
     ensures token { view result.piece ≡ tokens.token_of attribute (tokens.skip bytes.now) }
     ensures behind { result.behind.now ≡ drop (tokens.width (view result.piece)) (tokens.skip bytes.now) }
 {
-    let from = &bytes[blanks(bytes)..];
+    let from = skip(bytes);
     let piece = token_at(attribute, from);
     let behind = &from[width(&piece)..];
     Found {
