@@ -5,6 +5,7 @@ pub mod Lying
 pub mod LineExamples
 pub mod Viable
 pub mod Strides
+pub mod LineCopies
 pub mod PutDown
 pub mod Lasts
 pub mod Reading

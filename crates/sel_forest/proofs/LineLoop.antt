@@ -4,7 +4,7 @@ use Rattle.sel_grammar.specs.declared.grammar.Grammar.{Grammar}
 use Rattle.sel_forest.specs.declared.forest.Tree.{Tree}
 use Rattle.sel_forest.specs.Limits as limits
 use Rattle.sel_forest.specs.Limits.{most_nodes, most_trees}
-use Rattle.sel_forest.specs.Tokens.{Token, token_of, skip, width, start, first}
+use Rattle.sel_forest.specs.Tokens.{Token, token_of, skip, width, start, first, IsCutInto}
 use Rattle.sel_forest.specs.LineFaults.{Around, around, around_next, kind_of, HasFirstFault}
 use Rattle.sel_forest.specs.ForestText.{SpellsLine, IsBlankLine}
 use Rattle.sel_forest.specs.OpenNodes.{Opened, Fresh, Half, Full, opened, total, parent_of, parents_in, behind_first, first_parent, TakesToken}
@@ -15,8 +15,9 @@ use Rattle.sel_forest.specs.declared.line.State.{State}
 use Rattle.sel_forest.specs.declared.line.State.TheVariants.{Start, Wanted, Named, Colonned, Attributed, Closed, Ended}
 use Rattle.sel_forest.proofs.Lawful.{lawful}
 use Rattle.sel_forest.proofs.Strides.{skip_short, shorter}
+use Rattle.sel_forest.proofs.LineCopies.{ended_is}
 use Rattle.sel_forest.proofs.Reading.{HasPairsAtMost}
-use Rattle.sel_forest.proofs.Standing.{Stands, stands_start, token_here, stands_stray, stands_wrong, stands_takes, stands_next, stands_end, one_more, around_more, LineEnds}
+use Rattle.sel_forest.proofs.Standing.{Stands, stands_start, token_here, stands_stray, stands_wrong, stands_takes, stands_next, stands_end, step_ended, one_more, around_more, LineEnds}
 
 -- The loop's invariant, without what the taker took.
 pub record Reached (g : Grammar) (trees : ℕ) (line : List ℕ) (s : State) (rest : List ℕ) (a : Around) : Type 0 where
@@ -120,6 +121,9 @@ module _ (g : Grammar) (trees : ℕ) (line : List ℕ) (s : State) (rest : List 
             around_is = followed ∙ (λ j. around_next g (r.around_is j) (seen j)) ∙ sym (around_more g two trees line r.n s rest r.stands);
           }
 
+    pub sees_nothing : (u : State) → o ≡ Some u → u ≡ Ended → skip rest ≡ []
+    sees_nothing u h ended = ended_is (wants_attribute s) (skip rest) (step_ended s (token_here s rest) (steps (Some Ended) (h ∙ ap Some ended)))
+
     -- the tokens with one more
     pub sees_more : HasPairsAtMost g → ts ++ (t ∷ []) ≡ first (suc r.n) (start line)
     sees_more two = ap (λ t. ts ++ (t ∷ [])) seen ∙ sym (one_more g two trees line r.n s rest r.stands)
@@ -139,6 +143,6 @@ ends_blank g trees line ts (inl e) h = (e.0, e.1)
 ends_blank g trees line ts (inr e) h = absurd (omega (arith, e.4, h))
 
 pub ends_tree : (g : Grammar) (trees : ℕ) (line : List ℕ) (ts : List Token) → LineEnds g trees line ts → (total (opened g ts) ≡ 0 → ⊥)
-    → (tree : Tree) × AreTokensOf g ts tree × SpellsLine g line tree × (trees < most_trees)
+    → (tree : Tree) × AreTokensOf g ts tree × SpellsLine g line tree × (trees < most_trees) × IsCutInto line ts
 ends_tree g trees line ts (inl e) h = absurd (h e.2)
-ends_tree g trees line ts (inr e) h = (e.0, e.1, e.2, e.3)
+ends_tree g trees line ts (inr e) h = (e.0, e.1, e.2, e.3, e.5)

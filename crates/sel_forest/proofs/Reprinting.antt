@@ -5,7 +5,8 @@ use Rattle.std.specs.Prelude.{flat_map, map, option_map}
 use Rattle.std.specs.List.{list_all, onto_first}
 use Rattle.std.proofs.Math.Seq.{take-suc}
 use Rattle.std.proofs.lemmas.Grind.{flat_map-append}
-use Rattle.std.proofs.lemmas.List.{flat_map_more, map-append}
+use Rattle.std.proofs.lemmas.List.{map-append}
+use Rattle.std.proofs.lemmas.List.Elements.{All-append, All-cons, All-nil}
 use Rattle.std.proofs.lemmas.List.Splits.{slice_split-cons_yes, slice_split-cons_no}
 use Rattle.std.proofs.lemmas.Option.{slice_get-map, slice_get_read}
 use Rattle.std.proofs.lemmas.Slice.Eq.{bytes_eq-Decides}
@@ -16,11 +17,11 @@ use Rattle.sel_forest.specs.declared.forest.Tree.{Tree}
 use Rattle.sel_forest.specs.declared.forest.Forest.{Forest}
 use Rattle.sel_forest.specs.ForestText.{SpellsLine, LinesSpell, no_lines, blank_line, tree_line, lines_of, SpellsForest}
 use Rattle.sel_forest.specs.Postorder.{IsPostorderOf, postorder}
-use Rattle.sel_forest.specs.OpenNodes.{whole}
+use Rattle.sel_forest.specs.OpenNodes.{Opened, whole, TakesToken}
 use Rattle.sel_forest.specs.Printed.{name_of, operator_name, attribute_text, tree_text, forest_text, tree_of, HasNames, IsPrinted}
-use Rattle.sel_forest.specs.Reprinting.{token_text, HasReprinted}
+use Rattle.sel_forest.specs.Reprinting.{token_text, IsSmall, HasReprinted}
 use Rattle.sel_forest.specs.Taking.{AreTokensOf}
-use Rattle.sel_forest.specs.Tokens.{Token, Open, Comma, Close}
+use Rattle.sel_forest.specs.Tokens.{Token, Name, Number, Symbol, Colon, Open, Comma, Close, Bad, End, source}
 use Rattle.sel_forest.specs.TreeText.{operator_number, value_of, SpellsAttribute, no_attribute, a_number, a_symbol, SpellsTree, no_kids, one_kid, two_kids}
 use Rattle.sel_forest.specs.Valid.{IsValidTree, IsValidForest, IsOperatorOf, IsOver, depth}
 use Rattle.sel_forest.specs.Limits.{most_nodes, greatest_depth}
@@ -67,28 +68,43 @@ tree_is g _ _ (two_kids n a xs ts us t u s h k) over =
     ∙ (λ j. name_is g n 2 over.0 j ++ (attribute_is xs a s j ++ (codes "(" ++ (tree_is g ts t h over.2 j ++ (codes "," ++ (tree_is g us u k over.3 j ++ codes ")"))))))
 
 -- One token more, and a whole line.
-pub reprinted_first : (g : Grammar) (text : List ℕ) → text ≡ [] → HasReprinted g text [] []
-reprinted_first g text e = record { plain = []; trees_are = refl; text_is = e }
+pub reprinted_first : (g : Grammar) (text : List ℕ) (in_print : Bool) → text ≡ [] → HasReprinted g text in_print [] []
+reprinted_first g text in_print e = record { plain = []; trees_are = refl; text_is = e; small = All-nil IsSmall; print_is = λ now. refl }
 
-pub reprinted_token : (g : Grammar) (text text' : List ℕ) (trees : List Tree) (ts : List Token) (t : Token) → HasReprinted g text trees ts → text' ≡ text ++ token_text t
-    → HasReprinted g text' trees (ts ++ (t ∷ []))
-reprinted_token g text text' trees ts t h e = record {
-  plain = h.plain;
-  trees_are = h.trees_are;
-  text_is = e ∙ ap (λ x. x ++ token_text t) h.text_is ∙ flat_map_more token_text (forest_text g h.plain) ts t;
-}
+small_of : (os : List Opened) (t : Token) → TakesToken os t → IsSmall t
+small_of os (Name bytes) h = tt
+small_of os (Number bytes) h = h.0
+small_of os (Symbol bytes) h = tt
+small_of os Colon h = tt
+small_of os Open h = tt
+small_of os Comma h = tt
+small_of os Close h = tt
+small_of os (Bad b) h = tt
+small_of os End h = tt
 
-pub reprinted_printed : (g : Grammar) (text : List ℕ) (trees : List Tree) → HasReprinted g text trees [] → IsPrinted g (record { trees = trees }) text
-reprinted_printed g text trees h = record { plain = h.plain; trees_are = h.trees_are; text_is = h.text_is ∙ sym (append-none (forest_text g h.plain)) }
+pub reprinted_token : (g : Grammar) (text : List ℕ) (in_print in_print' : Bool) (trees : List Tree) (os : List Opened) (ts : List Token) (t : Token) → HasReprinted g text in_print trees ts
+    → TakesToken os t → (in_print' ≡ true → (in_print ≡ true) × (IsSmall t → source t ≡ token_text t)) → HasReprinted g text in_print' trees (ts ++ (t ∷ []))
+reprinted_token g text in_print in_print' trees os ts t h takes stays =
+    let small : IsSmall t = small_of os t takes in
+    record {
+      plain = h.plain;
+      trees_are = h.trees_are;
+      text_is = h.text_is;
+      small = All-append IsSmall ts (t ∷ []) h.small (All-cons IsSmall t [] small (All-nil IsSmall));
+      print_is = λ now. flat_map-append token_text ts (t ∷ []) ∙ (λ j. h.print_is (stays now).0 j ++ (sym ((stays now).1 small) j ++ [])) ∙ sym (flat_map-append source ts (t ∷ []));
+    }
 
-pub reprinted_line : (g : Grammar) (text text' : List ℕ) (trees : List Tree) (ts : List Token) (tree : Tree) → HasReprinted g text trees ts → AreTokensOf g ts tree
-    → text' ≡ text ++ codes "\n" → HasReprinted g text' (trees ++ (tree ∷ [])) []
-reprinted_line g text text' trees ts tree h tokens e =
+pub reprinted_printed : (g : Grammar) (text : List ℕ) (in_print : Bool) (trees : List Tree) → HasReprinted g text in_print trees [] → IsPrinted g (record { trees = trees }) text
+reprinted_printed g text in_print trees h = record { plain = h.plain; trees_are = h.trees_are; text_is = h.text_is }
+
+pub reprinted_line : (g : Grammar) (text text' : List ℕ) (in_print : Bool) (trees : List Tree) (ts : List Token) (tree : Tree) → HasReprinted g text in_print trees ts → AreTokensOf g ts tree
+    → text' ≡ (text ++ flat_map token_text ts) ++ codes "\n" → HasReprinted g text' true (trees ++ (tree ∷ [])) []
+reprinted_line g text text' in_print trees ts tree h tokens e =
     let before = forest_text g h.plain in
     let line = tree_is g ts (whole tokens.root) tokens.spells tokens.over in
     let next = printed_next g trees tree (whole tokens.root) before text' (record { plain = h.plain; trees_are = h.trees_are; text_is = refl }) tokens.postorder
-    (e ∙ (λ j. (h.text_is ∙ ap (λ x. before ++ x) line) j ++ codes "\n") ∙ append_assoc before (tree_text g (whole tokens.root)) (codes "\n")) in
-    record { plain = next.plain; trees_are = next.trees_are; text_is = next.text_is ∙ append-none (forest_text g next.plain) }
+    (e ∙ (λ j. (h.text_is j ++ line j) ++ codes "\n") ∙ append_assoc before (tree_text g (whole tokens.root)) (codes "\n")) in
+    record { plain = next.plain; trees_are = next.trees_are; text_is = next.text_is; small = All-nil IsSmall; print_is = λ now. refl }
 
 -- a tree of a valid forest
 pub tree_at : (g : Grammar) (forest : Forest) (k : ℕ) (tree : Tree) → IsValidForest g forest → k < length forest.trees → tree ≡ slice_index_or forest.trees k tree → IsValidTree g tree

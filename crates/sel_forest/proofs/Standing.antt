@@ -175,7 +175,7 @@ after_ended (suc d) Close h = cc
 after_ended zero End h = refl
 after_ended _ _ h = cc
 
-step_ended : (s : State) (t : Token) → step s t ≡ Some Ended → t ≡ End
+pub step_ended : (s : State) (t : Token) → step s t ≡ Some Ended → t ≡ End
 step_ended Start (Name n) h = cc
 step_ended Start End h = refl
 step_ended (Wanted d) (Name n) h = cc
@@ -193,7 +193,7 @@ step_ended _ _ h = cc
 abbrev pub LineEnds : Grammar → ℕ → List ℕ → List Token → Type 0
 LineEnds g trees line ts =
     ((ts ≡ []) × IsBlankLine line × (total (opened g ts) ≡ 0))
-    ⊎ ((tree : Tree) × AreTokensOf g ts tree × SpellsLine g line tree × (trees < most_trees) × (0 < total (opened g ts)))
+    ⊎ ((tree : Tree) × AreTokensOf g ts tree × SpellsLine g line tree × (trees < most_trees) × (0 < total (opened g ts)) × IsCutInto line ts)
 
 pub stands_end : (g : Grammar) (two : HasPairsAtMost g) (trees : ℕ) (line : List ℕ) (n : ℕ) (s : State) (rest : List ℕ) (r : Stands g trees line n s rest)
     → step s (token_here s rest) ≡ Some Ended → kind_of g trees (around g (first n (start line))) (token_here s rest) ≡ None → LineEnds g trees line (first n (start line))
@@ -218,5 +218,6 @@ stands_end g two trees line n s rest r h k =
             },
             r.few (omega (arith, f.names, q, size_some (whole e.0))),
             omega (arith, q, size_some (whole e.0)),
+            cut,
           )
     ]

@@ -23,7 +23,7 @@ take_pos m b bs = omega (arith, length-take (1 + m) (b ∷ bs))
 run_pos : (p : ℕ → Bool) (b : ℕ) (bs : List ℕ) → p b ≡ true → 0 < length (take (prefix_len p (b ∷ bs)) (b ∷ bs))
 run_pos p b bs h = rw h (take_pos (prefix_len p bs) b bs)
 
-choose : (P : Token → Type 0) (b : Bool) (x y : Token) → (b ≡ true → P x) → (b ≡ false → P y) → P (cond b x y)
+pub choose : (P : Token → Type 0) (b : Bool) (x y : Token) → (b ≡ true → P x) → (b ≡ false → P y) → P (cond b x y)
 choose P true x y f g = f refl
 choose P false x y f g = g refl
 

@@ -1,5 +1,5 @@
 -- How a line is cut into tokens.
-use Rattle.std.specs.Prelude.{◌≡◌, ℕ, zero, suc, ◌-◌, Bool, true, false, List, [], ◌∷◌, ◌++◌, length, drop, if◌then◌else◌, ◌==◌, ◌&&◌, take_while}
+use Rattle.std.specs.Prelude.{◌≡◌, ℕ, zero, suc, ◌-◌, Bool, true, false, List, [], ◌∷◌, ◌++◌, length, drop, codes, if◌then◌else◌, ◌==◌, ◌&&◌, take_while}
 use Rattle.std.specs.List.{prefix_len}
 use Rattle.std.specs.Char.{is_ascii_digit}
 use Rattle.sel_forest.specs.Symbols.{is_blank, is_letter, is_name_byte, is_symbol_start, is_symbol_byte}
@@ -27,6 +27,18 @@ width Comma = 1
 width Close = 1
 width (Bad b) = 1
 width End = 0
+
+-- the bytes of a token
+abbrev pub source : Token → List ℕ
+source (Name bytes) = bytes
+source (Number bytes) = bytes
+source (Symbol bytes) = bytes
+source Colon = codes ":"
+source Open = codes "("
+source Comma = codes ","
+source Close = codes ")"
+source (Bad b) = b ∷ []
+source End = []
 
 -- a byte that is a token of its own, or none
 abbrev pub mark : ℕ → Token

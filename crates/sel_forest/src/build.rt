@@ -146,10 +146,6 @@ impl TreeBuilder {
 impl Taker for TreeBuilder {
     ghost took = { λ builder g trees ts. HasBuilt g builder trees ts };
 
-    fn begin(&mut self, _: &[u8]) -> Result<(), NoMemory> {
-        Ok(())
-    }
-
     fn take(&mut self, operator: u8, piece: &Piece<'_>) -> Result<(), NoMemory> {
         take(
             self.alloc,
@@ -161,7 +157,7 @@ impl Taker for TreeBuilder {
         Ok(())
     }
 
-    fn end(&mut self) -> Result<(), NoMemory> {
+    fn end(&mut self, _: &[u8], _: bool) -> Result<(), NoMemory> {
         self.finish()?;
         Ok(())
     }

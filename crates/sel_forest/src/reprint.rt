@@ -1,6 +1,6 @@
 //! Forests printed while they are read.
 
-ghost use Rattle.std.specs.Prelude.{◌≡◌, ◌++◌, ◌<◌, [], List, length, false, IfOk, IfErr, OnOk};
+ghost use Rattle.std.specs.Prelude.{◌≡◌, ◌++◌, ◌<◌, [], List, length, true, false, All, flat_map, IfOk, IfErr, OnOk};
 ghost use Rattle.std.specs.Fmt.{signed_decimal};
 ghost use Rattle.std.specs.Str.Parse.{AllDigits};
 ghost use Rattle.sel_grammar.specs.declared.grammar.Grammar.{Grammar as AnyGrammar};
@@ -8,18 +8,19 @@ ghost use Rattle.sel_grammar.specs.Limits.{IsWithinLimits};
 ghost use Rattle.sel_forest.specs.declared.forest.Tree.{Tree as AnyTree};
 ghost use Rattle.sel_forest.specs.ForestText.{IsForestRefusal};
 ghost use Rattle.sel_forest.specs.LineFaults.{is_too_large};
-ghost use Rattle.sel_forest.specs.OpenNodes.{Opened, TakesToken};
 ghost use Rattle.sel_forest.specs.Pieces.{view, IsLawful};
 ghost use Rattle.sel_forest.specs.Printed.{HasNames, IsPrinted};
 ghost use Rattle.sel_forest.specs.Reprinted.{IsReprinted, SpellsTheSame};
-ghost use Rattle.sel_forest.specs.Reprinting.{is_above_zero, is_in_print, token_text, HasReprinted};
+ghost use Rattle.sel_forest.specs.Reprinting.{is_above_zero, is_in_print, token_text, IsSmall, HasReprinted};
+ghost use Rattle.sel_forest.specs.Taking.{IsLineOf};
+ghost use Rattle.sel_forest.specs.Tokens.{Token as AnyToken, source, IsCutInto};
 ghost use Rattle.sel_forest.specs.TreeText.{without_sign, value_of};
 
 use crate::number::number;
 use crate::read::read_trees;
 use crate::refusal::ForestRefusal;
 use crate::taker::Taker;
-use crate::tokens::Piece;
+use crate::tokens::{Piece, is_colon, next_token};
 use sel_base::text::{put, put_signed};
 use sel_base::{List, NoMemory};
 use sel_grammar::Grammar;
@@ -80,7 +81,7 @@ fn put_numeral(text: &mut Vec<u8>, bytes: &[u8]) -> Result<(), NoMemory>
 /// Puts a token in print behind the text.
 fn put_token(text: &mut Vec<u8>, piece: &Piece<'_>) -> Result<(), NoMemory>
     requires { IsLawful (view piece.now) }
-    ensures { (os : List Opened) → TakesToken os (view piece.now) → OnOk result (text.new.items ≡ text.old.items ++ token_text (view piece.now)) }
+    ensures { IsSmall (view piece.now) → OnOk result (text.new.items ≡ text.old.items ++ token_text (view piece.now)) }
 {
     match piece {
         Piece::Name(bytes) | Piece::Symbol(bytes) => put_word(text, bytes)?,
@@ -94,26 +95,82 @@ fn put_token(text: &mut Vec<u8>, piece: &Piece<'_>) -> Result<(), NoMemory>
     Ok(())
 }
 
-/// Prints the tokens of a text when they are taken: a printed tree is its tokens, without blanks.
+/// Whether a token's bytes are its print.
+#[inline(always)]
+fn is_printed(piece: &Piece<'_>) -> bool
+    requires { IsLawful (view piece.now) }
+    ensures { result ≡ true → IsSmall (view piece.now) → source (view piece.now) ≡ token_text (view piece.now) }
+{
+    match piece {
+        Piece::Number(bytes) => is_in_print(bytes),
+        Piece::Bad(_) => false,
+        _ => true,
+    }
+}
+
+/// Whether tokens are their own print, and this one behind them.
+#[inline(always)]
+fn stays_in_print(in_print: bool, piece: &Piece<'_>) -> bool
+    requires { IsLawful (view piece.now) }
+    ensures { result ≡ true → (in_print ≡ true) × (IsSmall (view piece.now) → source (view piece.now) ≡ token_text (view piece.now)) }
+{
+    in_print && is_printed(piece)
+}
+
+/// Puts a line's tokens in print behind the text.
+fn put_tokens(text: &mut Vec<u8>, line: &[u8]) -> Result<(), NoMemory>
+    ensures { (ts : List AnyToken) → IsCutInto line.now ts → All IsSmall ts → OnOk result (text.new.items ≡ text.old.items ++ flat_map token_text ts) }
+{
+    let mut attribute = false;
+    let mut rest = line;
+    'tokens: loop {
+        let found = next_token(attribute, rest);
+        if let Piece::End = found.piece {
+            return Ok(());
+        }
+        put_token(text, &found.piece)?;
+        attribute = is_colon(&found.piece);
+        rest = found.behind;
+    }
+}
+
+/// Puts a line in print behind the text: as it stands, where that is its print, and else token by token.
+fn put_line(
+    text: &mut Vec<u8>,
+    line: &[u8],
+    plain: bool,
+    in_print: bool,
+) -> Result<(), NoMemory>
+    ensures { (ts : List AnyToken) → IsLineOf ts line.now plain → All IsSmall ts → (in_print ≡ true → flat_map token_text ts ≡ flat_map source ts)
+        → OnOk result (text.new.items ≡ text.old.items ++ flat_map token_text ts) }
+{
+    if plain && in_print {
+        put(text, line)?;
+        return Ok(());
+    }
+    put_tokens(text, line)?;
+    Ok(())
+}
+
+/// Prints lines when they are whole: a printed tree is its tokens in print, without blanks.
 #[derive(Drop)]
 struct Reprinter {
     text: Vec<u8>,
+    in_print: bool,
 }
 
 impl Taker for Reprinter {
-    ghost took = { λ reprinter g trees ts. HasReprinted g reprinter.text.items trees ts };
-
-    fn begin(&mut self, _: &[u8]) -> Result<(), NoMemory> {
-        Ok(())
-    }
+    ghost took = { λ reprinter g trees ts. HasReprinted g reprinter.text.items reprinter.in_print trees ts };
 
     fn take(&mut self, _: u8, piece: &Piece<'_>) -> Result<(), NoMemory> {
-        put_token(&mut self.text, piece)?;
+        self.in_print = stays_in_print(self.in_print, piece);
         Ok(())
     }
 
-    fn end(&mut self) -> Result<(), NoMemory> {
+    fn end(&mut self, line: &[u8], plain: bool) -> Result<(), NoMemory> {
+        put_line(&mut self.text, line, plain, self.in_print)?;
         self.text.push(b'\n')?;
+        self.in_print = true;
         Ok(())
     }
 }
@@ -133,6 +190,7 @@ pub fn reprint_forest(
 {
     let mut reprinter = Reprinter {
         text: Vec::new(alloc),
+        in_print: true,
     };
     read_trees(alloc, grammar, bytes, &mut reprinter)?;
     Ok(List::from_vec(reprinter.text))

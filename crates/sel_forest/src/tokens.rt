@@ -99,6 +99,12 @@ fn token_at(attribute: bool, bytes: &[u8]) -> Piece<'_>
     }
 }
 
+pub fn is_colon(piece: &Piece<'_>) -> bool
+    ensures { result ≡ tokens.is_colon (view piece.now) }
+{
+    matches!(piece, Piece::Colon)
+}
+
 /// How many bytes a token takes.
 fn width(piece: &Piece<'_>) -> usize
     ensures { result ≡ tokens.width (view piece.now) }

@@ -1,15 +1,19 @@
 -- The loop over a line's tokens.
 use Rattle.std.proofs.Common.{◌-◌, ◌∙◌, [], length, refl, sym, subst, arith, None, Some}
 use Rattle.sel_forest.specs.ForestText.{IsLineRefusal}
+use Rattle.sel_forest.specs.Pieces.{view}
+use Rattle.sel_forest.specs.Tokens.{first, start}
 use Rattle.sel_forest.proofs.Reading.{most_two}
 use Rattle.sel_forest.proofs.PlaceLemmas.{append-none}
-use Rattle.sel_forest.proofs.LineLoop.{sees, reached_start, reached_names, reached_kids, names_total, sees_lawful, sees_stray, sees_wrong, sees_end, sees_continues, sees_next, sees_more, sees_shorter, ends_blank, ends_tree}
+use Rattle.sel_forest.proofs.LineCopies.{IsCopy, copy_next, copy_end}
+use Rattle.sel_forest.proofs.LineLoop.{sees, reached_start, reached_names, reached_kids, names_total, sees_lawful, sees_stray, sees_wrong, sees_end, sees_continues, sees_next, sees_more, sees_nothing, sees_shorter, ends_blank, ends_tree}
 use Rattle.sel_forest.proofs.read.read_line.Goals as goal
 
 pub tokens-init : goal.tokens-init
 tokens-init g c = record {
   reached = reached_start c.args.grammar.now c.args.trees c.args.line.now c.restart.new.self c.restart.ensures;
-  took = λ taken. c.in_ok-begin.ensures c.args.grammar.now taken;
+  took = λ taken took. took;
+  copied = λ now. refl;
 }
 
 pub returns-in_default-clause-refusal : goal.returns-in_default-clause-refusal
@@ -58,8 +62,13 @@ returns-in-Ended-clause-line g c = λ taken took.
     let e = sees c.tokens.state c.tokens.rest.now c.wants_attribute.ensures c.next_token-found.ensures.from c.next_token-found.ensures.token c.next_token-found.ensures.behind c.step.ensures in
     let ends = sees_end c.args.grammar.now c.args.trees c.args.line.now _ _ _ c.tokens.invariant.reached _ _ _ _ _ e _ c.kind_of.ensures (most_two c.args.grammar.now c.requires.within) c.in-Some.next c.in-Some.is c.in-Ended.is c.in_default-kind_of.is in
     let names = names_total c.args.grammar.now c.args.trees c.args.line.now _ _ _ c.tokens.invariant.reached in
-    let (tree, tokens, spelled, few) = ends_tree c.args.grammar.now c.args.trees c.args.line.now _ ends (λ none. c.if-names-eq0.false (c.names.ensures ∙ names ∙ none)) in
-    (Some tree, spelled, few, refl, c.in_ok-end.ensures c.args.grammar.now taken _ tree (c.tokens.invariant.took taken took) tokens)
+    let (tree, tokens, spelled, few, cut) = ends_tree c.args.grammar.now c.args.trees c.args.line.now _ ends (λ none. c.if-names-eq0.false (c.names.ensures ∙ names ∙ none)) in
+    let nothing = sees_nothing c.args.grammar.now c.args.trees c.args.line.now _ _ _ c.tokens.invariant.reached _ _ _ _ _ e c.in-Some.next c.in-Some.is c.in-Ended.is in
+    (Some tree, spelled, few, refl, c.in_ok-end.ensures c.args.grammar.now taken _ tree (c.tokens.invariant.took taken took) tokens (record {
+      cut = cut;
+      plain_is = copy_end c.tokens.plain c.is_plain-plain.result (first c.tokens.invariant.reached.n (start c.args.line.now)) c.tokens.rest.now c.next_token-found.result.from.now c.args.line.now
+          c.tokens.invariant.copied c.next_token-found.ensures.from nothing c.is_plain-plain.ensures;
+    }))
 
 pub take-requires : goal.take-requires
 take-requires g c =
@@ -94,4 +103,7 @@ tokens-preserved g c =
           subst (g.T.Taker.took c.take.new.self c.args.grammar.now taken) (sees_more c.args.grammar.now c.args.trees c.args.line.now _ _ _ c.tokens.invariant.reached _ _ _ _ _ e two)
           (c.in_ok-take.ensures c.args.grammar.now taken _ (c.tokens.invariant.took taken took)
           (sees_continues c.args.grammar.now c.args.trees c.args.line.now _ _ _ c.tokens.invariant.reached _ _ _ _ _ e _ c.kind_of.ensures two c.in-Some.next _ c.in-Some.is c.in_default-kind_of.is c.operator_named-operator.ensures.named));
+      copied = subst (λ ts. IsCopy c.is_plain-plain.result ts c.next_token-found.result.behind.now c.args.line.now) (sees_more c.args.grammar.now c.args.trees c.args.line.now _ _ _ c.tokens.invariant.reached _ _ _ _ _ e two)
+          (copy_next c.tokens.plain c.is_plain-plain.result c.wants_attribute.result (first c.tokens.invariant.reached.n (start c.args.line.now)) (view c.next_token-found.result.piece) c.tokens.rest.now c.next_token-found.result.from.now c.next_token-found.result.behind.now c.args.line.now
+          c.tokens.invariant.copied c.next_token-found.ensures.from c.next_token-found.ensures.token c.next_token-found.ensures.behind c.is_plain-plain.ensures);
     }
