@@ -1,6 +1,6 @@
 //! Forests read from text.
 
-ghost use Rattle.std.specs.Prelude.{◌≡◌, ℕ, List, Option, [], ◌∷◌, ◌++◌, ◌<◌, ◌≤◌, ◌+◌, ◌-◌, ◌^◌, length, IfOk, IfErr, OnOk, IfSome, OnSome, true, not, ◌==◌, option_to_list, drop};
+ghost use Rattle.std.specs.Prelude.{◌≡◌, ℕ, List, Option, [], ◌∷◌, ◌++◌, ◌<◌, ◌≤◌, ◌+◌, ◌-◌, ◌^◌, length, IfOk, IfErr, OnOk, IfSome, OnSome, not, ◌==◌, option_to_list, drop};
 ghost use Rattle.std.specs.List.{prefix_len};
 ghost use Rattle.sel_grammar.specs.Limits.{IsWithinLimits};
 ghost use Rattle.sel_forest.specs.ForestText.{lines_of, SpellsForest, IsForestRefusal, IsLineResult, IsLineRefusal};
@@ -63,14 +63,6 @@ fn fault(kind: u8, number: u32, line: &[u8], from: &[u8]) -> ForestRefusal
     })
 }
 
-/// Whether a line that was plain before the rest is so still: no blank stands before the token.
-#[inline(always)]
-fn is_plain(plain: bool, from: &[u8], rest: &[u8]) -> bool
-    ensures { result ≡ true → (plain ≡ true) × (length from.now ≡ length rest.now) }
-{
-    plain && from.len() == rest.len()
-}
-
 /// Reads a line, and hands its tokens on, up to the first with a fault. The answer is how many trees
 /// there are then.
 fn read_line<T: Taker>(
@@ -95,8 +87,7 @@ fn read_line<T: Taker>(
     let mut plain = true;
     let mut rest = line;
     'tokens: loop {
-        let found = next_token(wants_attribute(state), rest);
-        plain = is_plain(plain, found.from, rest);
+        let found = next_token(wants_attribute(state), plain, rest);
         let Some(next) = step(state, &found.piece) else {
             return Err(fault(TOKEN, number, line, found.from));
         };
@@ -108,12 +99,13 @@ fn read_line<T: Taker>(
             if around.names() == 0 {
                 return Ok(trees);
             }
-            taker.end(line, plain)?;
+            taker.end(line, found.plain)?;
             return Ok(trees + 1);
         }
         taker.take(operator as u8, &found.piece)?;
         around.follow(operator as u8, &found.piece)?;
         state = next;
+        plain = found.plain;
         rest = found.behind;
     }
 }

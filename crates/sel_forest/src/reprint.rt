@@ -124,7 +124,7 @@ fn put_tokens(text: &mut Vec<u8>, line: &[u8]) -> Result<(), NoMemory>
     let mut attribute = false;
     let mut rest = line;
     'tokens: loop {
-        let found = next_token(attribute, rest);
+        let found = next_token(attribute, false, rest);
         if let Piece::End = found.piece {
             return Ok(());
         }

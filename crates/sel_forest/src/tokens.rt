@@ -116,12 +116,22 @@ fn width(piece: &Piece<'_>) -> usize
     }
 }
 
-/// A token, the bytes from it on, and the bytes behind it.
+/// A token, the bytes from it on, and the bytes behind it; and whether the bytes up to here are plain: no
+/// blank is among them.
 #[derive(Clone, Copy, Debug)]
 pub struct Found<'a> {
     pub piece: Piece<'a>,
     pub from: &'a [u8],
     pub behind: &'a [u8],
+    pub plain: bool,
+}
+
+/// Whether bytes that were plain before are so still: none of them was skipped.
+#[inline(always)]
+fn is_plain(plain: bool, from: &[u8], bytes: &[u8]) -> bool
+    ensures { result ≡ true → (plain ≡ true) × (length from.now ≡ length bytes.now) }
+{
+    plain && from.len() == bytes.len()
 }
 
 /// The bytes from the first on that is no blank.
@@ -140,17 +150,20 @@ fn skip(bytes: &[u8]) -> &[u8]
 
 /// The next token, blanks left out.
 #[inline(always)]
-pub fn next_token(attribute: bool, bytes: &[u8]) -> Found<'_>
+pub fn next_token(attribute: bool, plain: bool, bytes: &[u8]) -> Found<'_>
     ensures from { result.from.now ≡ tokens.skip bytes.now }
     ensures token { view result.piece ≡ tokens.token_of attribute (tokens.skip bytes.now) }
     ensures behind { result.behind.now ≡ drop (tokens.width (view result.piece)) (tokens.skip bytes.now) }
+    ensures plain { result.plain ≡ true → (plain ≡ true) × (length result.from.now ≡ length bytes.now) }
 {
     let from = skip(bytes);
+    let plain = is_plain(plain, from, bytes);
     let piece = token_at(attribute, from);
     let behind = &from[width(&piece)..];
     Found {
         piece,
         from,
         behind,
+        plain,
     }
 }

@@ -66,8 +66,8 @@ returns-in-Ended-clause-line g c = λ taken took.
     let nothing = sees_nothing c.args.grammar.now c.args.trees c.args.line.now _ _ _ c.tokens.invariant.reached _ _ _ _ _ e c.in-Some.next c.in-Some.is c.in-Ended.is in
     (Some tree, spelled, few, refl, c.in_ok-end.ensures c.args.grammar.now taken _ tree (c.tokens.invariant.took taken took) tokens (record {
       cut = cut;
-      plain_is = copy_end c.tokens.plain c.is_plain-plain.result (first c.tokens.invariant.reached.n (start c.args.line.now)) c.tokens.rest.now c.next_token-found.result.from.now c.args.line.now
-          c.tokens.invariant.copied c.next_token-found.ensures.from nothing c.is_plain-plain.ensures;
+      plain_is = copy_end c.tokens.plain c.next_token-found.result.plain (first c.tokens.invariant.reached.n (start c.args.line.now)) c.tokens.rest.now c.next_token-found.result.from.now c.args.line.now
+          c.tokens.invariant.copied c.next_token-found.ensures.from nothing c.next_token-found.ensures.plain;
     }))
 
 pub take-requires : goal.take-requires
@@ -103,7 +103,7 @@ tokens-preserved g c =
           subst (g.T.Taker.took c.take.new.self c.args.grammar.now taken) (sees_more c.args.grammar.now c.args.trees c.args.line.now _ _ _ c.tokens.invariant.reached _ _ _ _ _ e two)
           (c.in_ok-take.ensures c.args.grammar.now taken _ (c.tokens.invariant.took taken took)
           (sees_continues c.args.grammar.now c.args.trees c.args.line.now _ _ _ c.tokens.invariant.reached _ _ _ _ _ e _ c.kind_of.ensures two c.in-Some.next _ c.in-Some.is c.in_default-kind_of.is c.operator_named-operator.ensures.named));
-      copied = subst (λ ts. IsCopy c.is_plain-plain.result ts c.next_token-found.result.behind.now c.args.line.now) (sees_more c.args.grammar.now c.args.trees c.args.line.now _ _ _ c.tokens.invariant.reached _ _ _ _ _ e two)
-          (copy_next c.tokens.plain c.is_plain-plain.result c.wants_attribute.result (first c.tokens.invariant.reached.n (start c.args.line.now)) (view c.next_token-found.result.piece) c.tokens.rest.now c.next_token-found.result.from.now c.next_token-found.result.behind.now c.args.line.now
-          c.tokens.invariant.copied c.next_token-found.ensures.from c.next_token-found.ensures.token c.next_token-found.ensures.behind c.is_plain-plain.ensures);
+      copied = subst (λ ts. IsCopy c.next_token-found.result.plain ts c.next_token-found.result.behind.now c.args.line.now) (sees_more c.args.grammar.now c.args.trees c.args.line.now _ _ _ c.tokens.invariant.reached _ _ _ _ _ e two)
+          (copy_next c.tokens.plain c.next_token-found.result.plain c.wants_attribute.result (first c.tokens.invariant.reached.n (start c.args.line.now)) (view c.next_token-found.result.piece) c.tokens.rest.now c.next_token-found.result.from.now c.next_token-found.result.behind.now c.args.line.now
+          c.tokens.invariant.copied c.next_token-found.ensures.from c.next_token-found.ensures.token c.next_token-found.ensures.behind c.next_token-found.ensures.plain);
     }
