@@ -1,12 +1,12 @@
 -- Lines that are printed as they stand, and lines that are printed token by token.
-use Rattle.std.proofs.Common.{◌≡◌, ℕ, suc, zero, ◌+◌, ◌≤◌, ◌<◌, ◌==◌, ◌&&◌, List, [], ◌∷◌, ◌++◌, Bool, true, false, length, take, drop, refl, ap, sym, ◌∙◌, subst, arith, append_assoc, length-drop, eqb}
-use Rattle.std.specs.Prelude.{All, flat_map, take_while}
+use Rattle.std.proofs.Common.{◌≡◌, ℕ, suc, zero, ◌≤◌, ◌<◌, ◌&&◌, List, [], ◌∷◌, ◌++◌, Bool, true, false, length, take, drop, refl, ap, sym, ◌∙◌, subst, arith, append_assoc, length-drop, eqb}
+use Rattle.std.specs.Prelude.{All, flat_map}
 use Rattle.std.specs.List.{prefix_len}
 use Rattle.std.specs.Char.{is_ascii_digit}
 use Rattle.std.proofs.lemmas.Grind.{flat_map-append}
 use Rattle.std.proofs.lemmas.List.{take-append-drop}
 use Rattle.std.proofs.lemmas.List.Elements.{All-head, All-tail}
-use Rattle.sel_forest.specs.Tokens.{Token, Name, Number, Symbol, Colon, Open, Comma, Close, Bad, End, token_of, skip, width, source, is_colon, mark, begins_with_digit, Spot, start, token_at, behind, first, IsCutInto}
+use Rattle.sel_forest.specs.Tokens.{Token, Number, Colon, Open, Comma, Close, Bad, End, token_of, skip, width, source, is_colon, mark, begins_with_digit, Spot, token_at, behind, first, IsCutInto}
 use Rattle.sel_forest.specs.Symbols.{is_symbol_start, is_symbol_byte, is_name_byte, is_letter}
 use Rattle.sel_forest.specs.Reprinting.{token_text, IsSmall}
 use Rattle.sel_forest.specs.Pieces.{view}
@@ -113,7 +113,7 @@ left_next flag flag' rest later old text text' ts t l token_is more behind_is fl
         let here : token_of flag (skip rest) ≡ v = heads (token_of flag (skip rest)) v (first (suc (length vs)) (behind p)) (vs ++ (End ∷ [])) cut in
         let same : t ≡ v = token_is ∙ here in
         let next : record { attribute = flag'; text = later } ≡ behind p =
-            λ j. record { attribute = (flag_is ∙ ap is_colon token_is) j; text = (behind_is ∙ ap (λ u. drop (width u) (skip rest)) token_is) j } in
+        λ j. record { attribute = (flag_is ∙ ap is_colon token_is) j; text = (behind_is ∙ ap (λ u. drop (width u) (skip rest)) token_is) j } in
         record {
           done = l.done ++ (v ∷ []);
           left = vs;

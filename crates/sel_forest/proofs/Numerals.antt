@@ -1,5 +1,5 @@
 -- Numbers without needless zeros are their own print.
-use Rattle.std.proofs.Common.{◌≡◌, ℕ, zero, suc, ◌+◌, ◌-◌, ◌*◌, ◌≤◌, ◌<◌, ◌⊎◌, inl, inr, drop, ◌==◌, ◌^◌, nat_lt, nat_le, Bool, true, false, List, [], ◌∷◌, refl, ap, sym, ◌∙◌, subst, arith, length, pos, neg_ℤ, if◌then◌else◌}
+use Rattle.std.proofs.Common.{◌≡◌, ℕ, zero, suc, ◌+◌, ◌-◌, ◌*◌, ◌≤◌, ◌<◌, ◌⊎◌, inl, inr, drop, ◌==◌, ◌^◌, nat_lt, nat_le, Bool, true, false, List, [], ◌∷◌, refl, ap, sym, ◌∙◌, arith, length, pos, neg_ℤ, if◌then◌else◌}
 use Rattle.std.specs.Prelude.{get_or}
 use Rattle.std.specs.Fmt.{decimal, signed_decimal}
 use Rattle.std.specs.Str.Parse.{digits_value, digits_value_after, AllDigits}
@@ -8,7 +8,7 @@ use Rattle.std.proofs.lemmas.Fmt.{decimal_digit, decimal-digits_value}
 use Rattle.std.proofs.lemmas.Str.Parse.{IsNumeralModel, digits_value_short}
 use Rattle.sel_forest.specs.LineFaults.{is_too_large}
 use Rattle.sel_forest.specs.Reprinting.{is_above_zero, is_in_print}
-use Rattle.sel_forest.specs.TreeText.{is_negative, without_sign, value_of}
+use Rattle.sel_forest.specs.TreeText.{without_sign, value_of}
 use Rattle.sel_forest.proofs.Reading.{not_le, not_lt}
 
 numerals : IsNumeralModel (AllDigits 10) (digits_value 10)

@@ -1,5 +1,5 @@
 -- What printing puts down of the tokens of a text.
-use Rattle.std.specs.Prelude.{◌≡◌, ℕ, ◌==◌, nat_lt, Bool, true, false, All, if◌then◌else◌, List, [], ◌∷◌, ◌++◌, codes, map, flat_map}
+use Rattle.std.specs.Prelude.{◌≡◌, ℕ, ◌==◌, nat_lt, Bool, true, false, All, if◌then◌else◌, List, [], ◌∷◌, codes, map, flat_map}
 use Rattle.std.specs.Fmt.{signed_decimal}
 use Rattle.sel_grammar.specs.declared.grammar.Grammar.{Grammar}
 use Rattle.sel_grammar.specs.PlainTrees.{PlainTree}

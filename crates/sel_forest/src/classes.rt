@@ -4,8 +4,11 @@ ghost use Rattle.std.specs.Prelude.{◌≡◌, ◌==◌, ◌||◌};
 ghost use Rattle.sel_forest.specs.Symbols as symbols;
 
 const BLANK: u8 = 1;
+
 const SYMBOL: u8 = 2;
+
 const DIGIT: u8 = 3;
+
 const LETTER: u8 = 4;
 
 /// The class of each byte: a blank, `.`, `$` or `@`, a digit, a letter or `_`, or none of these.

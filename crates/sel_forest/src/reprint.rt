@@ -135,12 +135,7 @@ fn put_tokens(text: &mut Vec<u8>, line: &[u8]) -> Result<(), NoMemory>
 }
 
 /// Puts a line in print behind the text: as it stands, where that is its print, and else token by token.
-fn put_line(
-    text: &mut Vec<u8>,
-    line: &[u8],
-    plain: bool,
-    in_print: bool,
-) -> Result<(), NoMemory>
+fn put_line(text: &mut Vec<u8>, line: &[u8], plain: bool, in_print: bool) -> Result<(), NoMemory>
     ensures { (ts : List AnyToken) → IsLineOf ts line.now plain → All IsSmall ts → (in_print ≡ true → flat_map token_text ts ≡ flat_map source ts)
         → OnOk result (text.new.items ≡ text.old.items ++ flat_map token_text ts) }
 {

@@ -1,4 +1,4 @@
-use Rattle.std.proofs.Common.{arith, rules}
+use Rattle.std.proofs.Common.{arith}
 use Rattle.sel_forest.proofs.Numerals.{few_more}
 use Rattle.sel_forest.proofs.number.few.Goals as goal
 

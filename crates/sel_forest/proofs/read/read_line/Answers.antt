@@ -63,12 +63,17 @@ returns-in-Ended-clause-line g c = λ taken took.
     let ends = sees_end c.args.grammar.now c.args.trees c.args.line.now _ _ _ c.tokens.invariant.reached _ _ _ _ _ e _ c.kind_of.ensures (most_two c.args.grammar.now c.requires.within) c.in-Some.next c.in-Some.is c.in-Ended.is c.in_default-kind_of.is in
     let names = names_total c.args.grammar.now c.args.trees c.args.line.now _ _ _ c.tokens.invariant.reached in
     let (tree, tokens, spelled, few, cut) = ends_tree c.args.grammar.now c.args.trees c.args.line.now _ ends (λ none. c.if-names-eq0.false (c.names.ensures ∙ names ∙ none)) in
-    let nothing = sees_nothing c.args.grammar.now c.args.trees c.args.line.now _ _ _ c.tokens.invariant.reached _ _ _ _ _ e c.in-Some.next c.in-Some.is c.in-Ended.is in
-    (Some tree, spelled, few, refl, c.in_ok-end.ensures c.args.grammar.now taken _ tree (c.tokens.invariant.took taken took) tokens (record {
-      cut = cut;
-      plain_is = copy_end c.tokens.plain c.next_token-found.result.plain (first c.tokens.invariant.reached.n (start c.args.line.now)) c.tokens.rest.now c.next_token-found.result.from.now c.args.line.now
-          c.tokens.invariant.copied c.next_token-found.ensures.from nothing c.next_token-found.ensures.plain;
-    }))
+    let nothing = sees_nothing c.args.grammar.now c.args.trees c.args.line.now _ _ _ c.tokens.invariant.reached _ _ _ _ _ e c.in-Some.next c.in-Some.is c.in-Ended.is in (
+      Some tree,
+      spelled,
+      few,
+      refl,
+      c.in_ok-end.ensures c.args.grammar.now taken _ tree (c.tokens.invariant.took taken took) tokens (record {
+        cut = cut;
+        plain_is = copy_end c.tokens.plain c.next_token-found.result.plain (first c.tokens.invariant.reached.n (start c.args.line.now)) c.tokens.rest.now c.next_token-found.result.from.now c.args.line.now
+            c.tokens.invariant.copied c.next_token-found.ensures.from nothing c.next_token-found.ensures.plain;
+      }),
+    )
 
 pub take-requires : goal.take-requires
 take-requires g c =

@@ -1,6 +1,6 @@
 use Rattle.std.proofs.Common.{◌≡◌, ◌∙◌, ◌<◌, sym, ap, subst, length, drop}
 use Rattle.sel_forest.specs.Pieces.{view, IsLawful}
-use Rattle.sel_forest.specs.Tokens.{Token, token_of, skip, width, End}
+use Rattle.sel_forest.specs.Tokens.{token_of, skip, width, End}
 use Rattle.sel_forest.proofs.Lawful.{lawful}
 use Rattle.sel_forest.proofs.LineCopies.{left_first, left_next, left_end, shorter_behind, view_end}
 use Rattle.sel_forest.proofs.reprint.put_tokens.Goals as goal
