@@ -34,12 +34,14 @@ fn close(stack: &mut Vec<Node>, nodes: &mut Vec<Node>) -> Result<(), NoMemory>
     ensures { (below : List Node) (outer inner : Node) → stack.old.items ≡ (below ++ (outer ∷ [])) ++ (inner ∷ []) → OnOk result (
         (stack.new.items ≡ below ++ (attached outer (length nodes.old.items) ∷ [])) × (nodes.new.items ≡ nodes.old.items ++ (inner ∷ []))) }
 {
+    if stack.is_empty() {
+        return Ok(());
+    }
     let at = nodes.len() as u32;
-    if let Some(inner) = stack.pop() {
-        nodes.push(inner)?;
-        if let Some(outer) = stack.last_mut() {
-            attach(outer, at);
-        }
+    nodes.reserve(1)?;
+    nodes.push_reserved(stack.take_last());
+    if let Some(outer) = stack.last_mut() {
+        attach(outer, at);
     }
     Ok(())
 }
