@@ -1,6 +1,7 @@
 -- Numbers without needless zeros are their own print.
-use Rattle.std.proofs.Common.{◌≡◌, ℕ, zero, suc, ◌+◌, ◌-◌, ◌*◌, ◌≤◌, ◌<◌, ◌⊎◌, inl, inr, drop, ◌==◌, ◌^◌, nat_lt, nat_le, Bool, true, false, List, [], ◌∷◌, refl, ap, sym, ◌∙◌, arith, length, pos, neg_ℤ, if◌then◌else◌}
-use Rattle.std.specs.Prelude.{get_or}
+use Rattle.std.proofs.Common.{◌≡◌, ℕ, zero, suc, ◌+◌, ◌-◌, ◌*◌, ◌≤◌, ◌<◌, ◌⊎◌, inl, inr, drop, ◌==◌, ◌^◌, nat_lt, nat_le, Bool, true, false, List, [], ◌∷◌, refl, ap, sym, subst, ◌∙◌, arith, length, pos, neg_ℤ, if◌then◌else◌}
+use Rattle.std.specs.Prelude.{get_or, bytes_eq, codes}
+use Rattle.std.proofs.lemmas.Slice.Eq.{bytes_eq-Decides}
 use Rattle.std.specs.Fmt.{decimal, signed_decimal}
 use Rattle.std.specs.Str.Parse.{digits_value, digits_value_after, AllDigits}
 use Rattle.sel_base.proofs.DigitValues.{value_from}
@@ -43,6 +44,12 @@ in_print (b ∷ bytes) h small k = go (b == 45) refl h small k
     go false e h small k =
         let v = digits_value 10 (b ∷ bytes) in
         sym (digits_in_print (b ∷ bytes) h k (let l = not_le (2 ^ 63) v small in omega (arith, l)))
+
+pub zero_in_print : (bytes : List ℕ) → bytes_eq bytes (codes "0") ≡ true → bytes ≡ signed_decimal (value_of bytes)
+zero_in_print bytes h =
+    let naught : decimal 0 ≡ codes "0" = decimal_digit 0 (omega arith) in
+    let is : bytes ≡ codes "0" = (bytes_eq-Decides bytes (codes "0")).0 h in
+    subst (λ bs. bs ≡ signed_decimal (value_of bs)) (sym is) (sym naught)
 
 below_lt : (a b : ℕ) → b ≤ a → nat_lt a b ≡ false
 below_lt a b h = grind arith

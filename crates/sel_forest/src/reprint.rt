@@ -1,6 +1,6 @@
 //! Forests printed while they are read.
 
-ghost use Rattle.std.specs.Prelude.{◌≡◌, ◌++◌, ◌<◌, [], List, length, true, false, All, flat_map, IfOk, IfErr, OnOk};
+ghost use Rattle.std.specs.Prelude.{◌≡◌, bytes_eq, codes, ◌++◌, ◌<◌, [], List, length, true, false, All, flat_map, IfOk, IfErr, OnOk};
 ghost use Rattle.std.specs.Fmt.{signed_decimal};
 ghost use Rattle.std.specs.Str.Parse.{AllDigits};
 ghost use Rattle.sel_grammar.specs.declared.grammar.Grammar.{Grammar as AnyGrammar};
@@ -62,6 +62,21 @@ fn is_in_print(bytes: &[u8]) -> bool
     }
 }
 
+fn is_zero(bytes: &[u8]) -> bool
+    ensures { result ≡ bytes_eq bytes.now (codes "0") }
+{
+    bytes == b"0".as_slice()
+}
+
+/// Whether the bytes of a number are its print, 0 among them.
+#[tactic(auto, using(crate::proofs::Numerals::in_print, crate::proofs::Numerals::zero_in_print))]
+fn is_own_print(bytes: &[u8]) -> bool
+    requires { AllDigits 10 (without_sign bytes.now) }
+    ensures { result ≡ true → is_too_large bytes.now ≡ false → bytes.now ≡ signed_decimal (value_of bytes.now) }
+{
+    is_in_print(bytes) || is_zero(bytes)
+}
+
 /// Puts a number in print behind the text.
 #[tactic(auto, using(crate::proofs::Numerals::in_print))]
 fn put_numeral(text: &mut Vec<u8>, bytes: &[u8]) -> Result<(), NoMemory>
@@ -102,7 +117,7 @@ fn is_printed(piece: &Piece<'_>) -> bool
     ensures { result ≡ true → IsSmall (view piece.now) → source (view piece.now) ≡ token_text (view piece.now) }
 {
     match piece {
-        Piece::Number(bytes) => is_in_print(bytes),
+        Piece::Number(bytes) => is_own_print(bytes),
         Piece::Bad(_) => false,
         _ => true,
     }
