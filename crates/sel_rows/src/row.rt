@@ -21,6 +21,7 @@ impl<'r> Hand<'r> {
         ensures found { FoundRow self.old.seat.me.0 self.new.seat.me.0 key J.ask most result }
         ensures full { MarksFull self.old.seat.me.0 self.new.seat.me.0 result }
         ensures known { (n : ℕ) → In (J.ask, n) self.old.seat.me.0.known → FindsKnown self.old.seat.me.0 most n result }
+        ensures few { self.new.seat.me.0.steps ≤ self.old.seat.me.0.steps + most }
     {
         let rows = self.rows.rows;
         let base = 1 + 2 * self.rows.states;
