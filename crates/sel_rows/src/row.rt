@@ -55,6 +55,7 @@ impl<'r> Hand<'r> {
         ensures same { self.new.rows ≡ self.old.rows }
         ensures full { MarksPlaced self.old.seat.me.0 self.new.seat.me.0 result }
         ensures placed { FoundPlace self.new.seat.me.0 key J.ask result }
+        ensures few { self.new.seat.me.0.steps ≤ self.old.seat.me.0.steps + self.old.rows.now.rows }
     {
         let rows = self.rows.rows;
         let base = 1 + 2 * self.rows.states;

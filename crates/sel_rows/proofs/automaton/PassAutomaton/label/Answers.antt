@@ -139,18 +139,18 @@ returns-clause-by_pass g c =
     let facts : (x : ℕ) (is : List Items) → key_number op class a b ≡ Some x → KidsAre (Means v s.plain.items) a b is → KeyFacts v x op class a b is = λ x is h kids. key_facts s.normal.now v s.plain.items op class x a b is (omega arith) (omega arith) (omega arith) may.over h kids in
     record {
       known = λ k n own known. (
-        let kids = own.1 in
-        let x = some_number v s.plain.items op class a b kids.0 kids.1 own.0 in
-        let f = facts x.0 kids.0 x.1 kids.1 in
-        let same = asks_same known.0 (held_ask v x.0) (known.1).packed f.packed (sym known.2 ∙ (kids.2 ∙ sym f.node)) in
-        (e.known x.0 n x.1 (subst (λ j. KnowsKey v j n) same known.1), λ unmarked. e.hit x.0 x.1 n (subst (λ j. In (j, n) v.known) same (known.1).known) unmarked (known.1).some_rows)
-      );
+          let kids = own.1 in
+          let x = some_number v s.plain.items op class a b kids.0 kids.1 own.0 in
+          let f = facts x.0 kids.0 x.1 kids.1 in
+          let same = asks_same known.0 (held_ask v x.0) (known.1).packed f.packed (sym known.2 ∙ (kids.2 ∙ sym f.node)) in
+          (e.known x.0 n x.1 (subst (λ j. KnowsKey v j n) same known.1), λ unmarked. e.hit x.0 x.1 n (subst (λ j. In (j, n) v.known) same (known.1).known) unmarked (known.1).some_rows)
+          );
       looked = e.looked;
       published = published_by c.answer.result v w t.row_full op class a b (λ k own. (
-        let x = some_number v s.plain.items op class a b own.1.0 own.1.1 own.0 in
-        let f = facts x.0 own.1.0 x.1 own.1.1 in
-        (x.0, x.1, own.1.2 ∙ sym f.node, f.packed)
-      )) e.published;
+          let x = some_number v s.plain.items op class a b own.1.0 own.1.1 own.0 in
+          let f = facts x.0 own.1.0 x.1 own.1.1 in
+          (x.0, x.1, own.1.2 ∙ sym f.node, f.packed)
+          )) e.published;
       plain_where = plain_where c.follows_is_one.ensures s t z s.normal_is op class a b (may.kids).0 (may.kids).1 c.answer.result (λ x h. (facts x (may.kids).0 h (may.kids).1).node) (key_number op class a b) refl e.labelled e.cause;
       counted = (e.left).counted;
       refused = (e.left).refused;
