@@ -1,6 +1,5 @@
 //! Walks of a pass over the two rows, each as a call of its own.
-ghost use Rattle.std.specs.Prelude.{◌≡◌, ◌+◌, ◌<◌, ◌≤◌, ◌^◌, ◌∷◌, [], ℕ};
-ghost use Rattle.sel_law.specs.Words.{IsKey};
+ghost use Rattle.std.specs.Prelude.{◌≡◌, ◌+◌, ◌*◌, ◌<◌, ◌≤◌, ◌∷◌, [], length};
 ghost use Rattle.sel_rows.specs.Told.{pass_view, told_of_pass, spare_of};
 ghost use Rattle.sel_rows.specs.SeenKey.{walk_length, WalksRow, MarksRow};
 ghost use Rattle.sel_rows.specs.Calls.{number_of_key, IsReadableKey, ask_of_key, KeepsPass, KeepsMarks, FindsKnownNumber, HasWords, FindsState};
@@ -39,12 +38,14 @@ impl<'r> Pass<'r> {
         self.find_key::<Brand>(number_of_key(key))
     }
 
-    /// Looks an item set up in the intern row, from its home on. It takes no memory.
+    /// Looks an item set up in the intern row, from its home on: at each word once at most, with the content of its
+    /// number. It takes no memory.
     pub fn find_state(&mut self, items: &Items) -> Found
         requires items { HasWords (told_of_pass self.old).normal items.now }
         ensures found { FindsState (pass_view self.old) (pass_view self.new) items.now result }
         ensures marks { KeepsMarks self.old self.new }
         ensures kept { KeepsPass [] self.old self.new }
+        ensures few { (pass_view self.new).steps ≤ (pass_view self.old).steps + 2 * (pass_view self.old).setting.states * (length items.now.entries + 1) }
     {
         self.normal.is_standing();
         if self.hand.rows.states == 0 {

@@ -1,9 +1,9 @@
 //! How a pass labels a node.
-ghost use Rattle.std.specs.Prelude.{◌≡◌, ◌+◌, ◌<◌, ◌≤◌, ◌^◌, ◌++◌, ◌∷◌, ◌⊎◌, [], ℕ, List, Some, None, Ok, length, true, false, IfOk, OnErr};
+ghost use Rattle.std.specs.Prelude.{◌≡◌, ◌+◌, ◌<◌, ◌≤◌, ◌^◌, ℕ, List, Some, None, Ok, true, IfOk};
 ghost use Rattle.sel_items.specs.declared.label.Label.{Label};
 ghost use Rattle.sel_items.specs.Automata.{MayLabel};
 ghost use Rattle.sel_law.specs.Words.{In, IsKey, IsMadeOf};
-ghost use Rattle.sel_law.specs.Kinds.{HeldKey, HeldNumber, HeldWhole, WalkedRow};
+ghost use Rattle.sel_law.specs.Kinds.{HeldKey, HeldNumber, HeldWhole};
 ghost use Rattle.sel_rows.specs.Grown.{Grown};
 ghost use Rattle.sel_rows.specs.Held.{held_ask};
 ghost use Rattle.sel_rows.specs.Keys.{key_number};

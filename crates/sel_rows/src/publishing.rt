@@ -1,5 +1,5 @@
 //! Draws and publications of a pass, each as a call of its own.
-ghost use Rattle.std.specs.Prelude.{◌≡◌, ◌+◌, ◌<◌, ◌≤◌, ◌^◌, ◌∷◌, [], ℕ, Some};
+ghost use Rattle.std.specs.Prelude.{◌≡◌, ◌+◌, ◌*◌, ◌<◌, ◌≤◌, length, ◌∷◌, [], ℕ, Some};
 ghost use Rattle.sel_rows.specs.Grown.{KeepsHeld};
 ghost use Rattle.sel_rows.specs.Told.{pass_view, told_of_pass, spare_of};
 ghost use Rattle.sel_rows.specs.Calls.{number_of_key, IsReadableKey, ask_of_key, KeepsPass, HasWords, IsDrawn, IsBehindStates, FollowsFromAsked, StandsFor, IsBehindKeys, IsNumberFor, PlacesKey};
@@ -36,6 +36,7 @@ impl<'r> Pass<'r> {
         ensures stands { StandsFor self.old self.new items.now result }
         ensures marks { ((told_of_pass self.new).used_up ≡ (told_of_pass self.old).used_up) × ((told_of_pass self.new).row_full ≡ (told_of_pass self.old).row_full) }
         ensures kept { KeepsPass [] self.old self.new }
+        ensures few { (pass_view self.new).steps ≤ (pass_view self.old).steps + length items.now.entries + 2 * (pass_view self.old).setting.states * (length items.now.entries + 1) }
     {
         self.normal.is_standing();
         let Some(number) = self.spare else {

@@ -1,5 +1,5 @@
 //! Walks over the row of transitions.
-ghost use Rattle.std.specs.Prelude.{◌≡◌, ◌≢◌, ℕ, ◌+◌, ◌*◌, ◌%◌, ◌/◌, ◌<◌, ◌≤◌, ◌^◌, List, [], ◌∷◌, length, true, false};
+ghost use Rattle.std.specs.Prelude.{◌≡◌, ℕ, ◌+◌, ◌*◌, ◌%◌, ◌/◌, ◌<◌, ◌≤◌, ◌^◌, List};
 ghost use Rattle.sel_law.specs.Words.{IsKey, key_home, In, IsMadeOf};
 ghost use Rattle.sel_law.specs.Kinds.{HeldKey, HeldNumber, HeldWhole, WalkedRow};
 ghost use Rattle.sel_rows.specs.Grown.{Grown, KeepsNumber};
