@@ -206,6 +206,10 @@ pub if_ok_of : {A E : Type 0} (r : Result A E) (P Q : A → Type 0) → ((x : A)
 if_ok_of (Ok x) P Q f h = f x h
 if_ok_of (Err e) P Q f h = h
 
+pub on_err_of : {A E : Type 0} (r : Result A E) (P Q : Type 0) → (P → Q) → OnErr r P → OnErr r Q
+on_err_of (Ok x) P Q f h = h
+on_err_of (Err e) P Q f h = f h
+
 -- a plain label as `add_plain` gives it
 module _ {E : Type 0} (p q : List Items) (i : Items) (result : Result Label E) where
   pub after_added : IfOk result (λ l. (l ≡ Plain (length p)) × (q ≡ p ++ i ∷ [])) → OnErr result (q ≡ p) → IsPlainAfter p q result

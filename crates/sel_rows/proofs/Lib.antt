@@ -18,3 +18,4 @@ pub mod PlainCauses
 pub mod KnownKeys
 pub mod SingleCalls
 pub mod SnapshotIs
+pub mod StepCounts

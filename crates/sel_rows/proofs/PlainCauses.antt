@@ -1,5 +1,5 @@
 -- When a label is plain, and the counts of evaluations.
-use Rattle.std.proofs.Common.{◌≡◌, ℕ, Option, Result, Ok, Err, sym, subst, ◌∙◌, inl, inr, arith}
+use Rattle.std.proofs.Common.{◌≡◌, ℕ, Option, Result, Ok, Err, sym, subst, ◌∙◌, inl, inr}
 use Rattle.std.specs.Prelude.{IfOk}
 use Rattle.sel_normal.specs.NormalForms.{NormalForm}
 use Rattle.sel_items.specs.declared.items.Items.{Items}
@@ -16,7 +16,6 @@ use Rattle.sel_law.specs.Kinds.{HeldWhole}
 use Rattle.sel_law.proofs.Packed.{items_same}
 use Rattle.sel_rows.specs.declared.pass.Pass.{Pass}
 use Rattle.sel_rows.specs.Answers.{IsLeftPlain}
-use Rattle.sel_rows.specs.Counts.{CountsSteps}
 use Rattle.sel_rows.specs.Held.{held_content}
 use Rattle.sel_rows.specs.Meanings.{Means}
 use Rattle.sel_rows.specs.PlainLabels.{IsPlainFor}
@@ -54,12 +53,3 @@ not_plain_for old new a b n num (inr (i, m, inr h)) =
 pub if_ok_both : {A E : Type 0} (r : Result A E) (P Q S : A → Type 0) → ((x : A) → P x → Q x → S x) → IfOk r P → IfOk r Q → IfOk r S
 if_ok_both (Ok x) P Q S f p q = f x p q
 if_ok_both (Err e) P Q S f p q = p
-
-pub if_ok_one : {A E : Type 0} (r : Result A E) (P Q : A → Type 0) → ((x : A) → P x → Q x) → IfOk r P → IfOk r Q
-if_ok_one (Ok x) P Q f p = f x p
-if_ok_one (Err e) P Q f p = p
-
--- without a step nothing is counted
-pub none_counts : (m m' s s' : ℕ) → CountsSteps m m' s s' → s' ≡ s → m' ≡ m
-none_counts m m' s s' (inl h) e = h.0
-none_counts m m' s s' (inr h) e = let lt = h.1 in absurd (omega arith)

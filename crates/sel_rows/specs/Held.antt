@@ -32,3 +32,4 @@ pub record IsRead (v : View) (asks : List Ask) (n i word : ℕ) (w : View) : Typ
   pub known : w.known ≡ v.known
   pub asked : w.asked ≡ v.asked ++ asks
   pub contents : w.contents ≡ v.contents ++ (n, i, word) ∷ []
+  pub steps : w.steps ≡ v.steps + 1

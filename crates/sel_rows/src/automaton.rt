@@ -1,12 +1,11 @@
 //! A pass as an `Automaton`.
-ghost use Rattle.std.specs.Prelude.{◌≡◌, ◌<◌, ◌≤◌, ◌↔◌, List, IfOk, OnErr};
+ghost use Rattle.std.specs.Prelude.{◌≡◌, ◌<◌, ◌≤◌, List, IfOk};
 ghost use Rattle.sel_items.specs.declared.items.Items.{Items};
 ghost use Rattle.sel_items.specs.declared.label.Label.{Label};
 ghost use Rattle.sel_items.specs.Entries.{item_at};
-ghost use Rattle.sel_items.specs.Labels.{IsPlain, KidsAre};
+ghost use Rattle.sel_items.specs.Labels.{KidsAre};
 ghost use Rattle.sel_items.specs.Automata.{MayLabel, IsLabelled, Grows, AddsOwn, IsReady, IsHit, BeginsTree, IsRead};
-ghost use Rattle.sel_rows.specs.Counts.{CountsSteps};
-ghost use Rattle.sel_rows.specs.PlainLabels.{IsPlainFor, FindsKnownKey, KnowsOwnKey, LooksIfMarked};
+ghost use Rattle.sel_rows.specs.PlainLabels.{IsLabelByPass};
 ghost use Rattle.sel_rows.specs.Told.{told_of_pass, standing_of, spare_of, evaluated_of};
 
 use crate::item::plain_item;
@@ -47,12 +46,7 @@ impl<'r> Automaton for Pass<'r> {
         steps: &mut Steps<L>,
     ) -> Result<Label, NoMemory>
         requires may { MayLabel (told_of_pass self.old) operator class kids.0 kids.1 }
-        ensures known { FindsKnownKey self.old self.new operator class kids.0 kids.1 result steps.old steps.new }
-        ensures looked { LooksIfMarked self.old self.new operator class kids.0 kids.1 }
-        ensures published { IfOk result (λ l. KnowsOwnKey self.old self.new operator class kids.0 kids.1 l) }
-        ensures plain_where { IfOk result (λ l. IsPlain l ↔ IsPlainFor self.old self.new kids.0 kids.1 l) }
-        ensures counted { CountsSteps (evaluated_of self.old) (evaluated_of self.new) steps.old steps.new }
-        ensures refused { OnErr result (spare_of self.new ≡ spare_of self.old) }
+        ensures by_pass { IsLabelByPass self.old self.new operator class kids.0 kids.1 result steps.old steps.new }
         ensures fixed { standing_of self.new ≡ standing_of self.old }
         ensures labelled { IfOk result (λ l. (is : List Items) → KidsAre (told_of_pass self.old).means kids.0 kids.1 is → IsLabelled (told_of_pass self.new) operator class kids.0 kids.1 is l) }
         ensures grows { Grows (told_of_pass self.old) (told_of_pass self.new) result }

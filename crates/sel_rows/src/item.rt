@@ -1,5 +1,5 @@
 //! Entries of the item sets that labels mean.
-ghost use Rattle.std.specs.Prelude.{◌≡◌, ◌<◌, [], ℕ, Some, slice_get};
+ghost use Rattle.std.specs.Prelude.{◌≡◌, ◌<◌, [], Some, slice_get};
 ghost use Rattle.std.specs.Option.{option_copied};
 ghost use Rattle.sel_items.specs.declared.items.Items.{Items};
 ghost use Rattle.sel_items.specs.Entries.{item_at};

@@ -1,5 +1,5 @@
 //! The item sets of a node's kids, and the number of its key.
-ghost use Rattle.std.specs.Prelude.{◌≡◌, ℕ, Some, IfOk};
+ghost use Rattle.std.specs.Prelude.{◌≡◌, Some, IfOk};
 ghost use Rattle.std.specs.Option.{option_copied};
 ghost use Rattle.sel_rows.specs.Grown.{Grown, KeepsOwn};
 ghost use Rattle.sel_rows.specs.Keys.{key_number, IsReadable, kid_read, kid_chosen};

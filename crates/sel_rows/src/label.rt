@@ -1,19 +1,16 @@
 //! How a pass labels a node.
-ghost use Rattle.std.specs.Prelude.{◌≡◌, ◌<◌, ◌≤◌, ◌^◌, ◌++◌, ◌∷◌, ◌⊎◌, [], ℕ, List, Some, None, Ok, length, true, false, IfOk, OnErr};
-ghost use Rattle.sel_items.specs.declared.items.Items.{Items};
+ghost use Rattle.std.specs.Prelude.{◌≡◌, ◌+◌, ◌<◌, ◌≤◌, ◌^◌, ℕ, List, Some, None, Ok, true, IfOk};
 ghost use Rattle.sel_items.specs.declared.label.Label.{Label};
-ghost use Rattle.sel_items.specs.Follows.{key_of};
-ghost use Rattle.sel_items.specs.Labels.{KidsAre, AreKidSets, IsClassOver, AreNumbered};
-ghost use Rattle.sel_items.specs.Automata.{IsLabelled};
-ghost use Rattle.sel_law.specs.Words.{In, IsKey, IsMadeOf, HasPackedKids, node_key};
-ghost use Rattle.sel_law.specs.Kinds.{HeldKey, HeldNumber, HeldWhole, WalkedRow};
+ghost use Rattle.sel_items.specs.Automata.{MayLabel};
+ghost use Rattle.sel_law.specs.Words.{In, IsKey, IsMadeOf};
+ghost use Rattle.sel_law.specs.Kinds.{HeldKey, HeldNumber, HeldWhole};
 ghost use Rattle.sel_rows.specs.Grown.{Grown};
 ghost use Rattle.sel_rows.specs.Held.{held_ask};
 ghost use Rattle.sel_rows.specs.Keys.{key_number};
-ghost use Rattle.sel_rows.specs.Meanings.{Means, KnowsKey, told_by};
+ghost use Rattle.sel_rows.specs.Meanings.{KnowsKey};
 ghost use Rattle.sel_rows.specs.SeenKey.{walk_length, WalksRow, IsSeen, FindsOwn, FindsNoOther, MarksRow, LooksMarked};
-ghost use Rattle.sel_rows.specs.Counts.{CountsSteps};
-ghost use Rattle.sel_rows.specs.Answers.{GrownFor, IsPlainAfter, IsPublished, AnswersKnown, PlainCause, IsTabledAs};
+ghost use Rattle.sel_rows.specs.Told.{told_of_pass};
+ghost use Rattle.sel_rows.specs.Answers.{GrownFor, IsNodeKey, LeavesPass, LabelsNode, IsPublished, AnswersKnown, PlainCause, IsTabledAs};
 
 use crate::found::{Placed, Seen};
 use crate::kids::key_number;
@@ -46,7 +43,7 @@ impl<'r> Pass<'r> {
     pub(crate) fn find_key<J: Doing>(&mut self, key: u64) -> Seen
         requires key { (J.key ≡ key) × IsKey key × HeldKey self.old.hand.seat.me.0 key J.ask × In J.ask J.asks }
         ensures grown { Grown J.asks self.old.hand.seat.me.0 self.new.hand.seat.me.0 }
-        ensures kept { (self.new.hand.rows ≡ self.old.hand.rows) × (self.new.normal ≡ self.old.normal) × (self.new.spare ≡ self.old.spare) × (self.new.evaluated ≡ self.old.evaluated) }
+        ensures kept { (self.new.hand.rows ≡ self.old.hand.rows) × (self.new.normal ≡ self.old.normal) × (self.new.spare ≡ self.old.spare) × (self.new.evaluated ≡ self.old.evaluated) × (self.new.used_up ≡ self.old.used_up) }
         ensures plain { self.new.plain.items ≡ self.old.plain.items }
         ensures row_full { self.old.row_full ≡ true → self.new.row_full ≡ true }
         ensures seen { IsSeen self.new.hand.seat.me.0 key J.ask self.new.row_full result }
@@ -54,7 +51,7 @@ impl<'r> Pass<'r> {
         ensures walked { WalksRow self.old.hand.seat.me.0 self.new.hand.seat.me.0 key J.ask self.old.row_full result }
         ensures no_other { (n : ℕ) → In (J.ask, n) self.old.hand.seat.me.0.known → 1 ≤ self.old.hand.seat.me.0.setting.rows → FindsNoOther n result }
         ensures marks { MarksRow self.old.row_full self.new.row_full result }
-        ensures used_up { self.new.used_up ≡ self.old.used_up }
+        ensures few { self.new.hand.seat.me.0.steps ≤ self.old.hand.seat.me.0.steps + walk_length self.old.row_full self.old.hand.rows.now.rows }
     {
         if self.hand.rows.rows == 0 {
             self.row_full = true;
@@ -113,19 +110,11 @@ impl<'r> Pass<'r> {
         kids: (Option<Label>, Option<Label>),
         steps: &mut Steps<L>,
     ) -> Result<Label, NoMemory>
-        requires kids { (is : List Items) × KidsAre (Means self.old.hand.seat.me.0 self.old.plain.items) kids.0 kids.1 is × AreKidSets self.old.normal.now is }
-        requires class { IsClassOver self.old.normal.now class kids.0 }
-        requires room { length self.old.plain.items < 2 ^ 32 }
+        requires may { MayLabel (told_of_pass self.old) operator class kids.0 kids.1 }
         requires plain { key_number operator class kids.0 kids.1 ≡ None }
         ensures grown { Grown J.asks self.old.hand.seat.me.0 self.new.hand.seat.me.0 }
-        ensures kept { (self.new.hand.rows ≡ self.old.hand.rows) × (self.new.normal ≡ self.old.normal) }
-        ensures row_full { self.old.row_full ≡ true → self.new.row_full ≡ true }
-        ensures plain { IsPlainAfter self.old.plain.items self.new.plain.items result }
-        ensures labelled { IfOk result (λ l. (is : List Items) → KidsAre (Means self.old.hand.seat.me.0 self.old.plain.items) kids.0 kids.1 is
-            → IsLabelled (told_by self.old.normal.now self.new.hand.seat.me.0 self.new.plain.items self.new.used_up self.new.row_full) operator class kids.0 kids.1 is l) }
-        ensures counted { CountsSteps self.old.evaluated self.new.evaluated steps.old steps.new }
-        ensures refused { OnErr result (self.new.spare ≡ self.old.spare) }
-        ensures steps { steps.old ≤ steps.new }
+        ensures left { LeavesPass self.old self.new result steps.old steps.new }
+        ensures labelled { LabelsNode self.old self.new operator class kids.0 kids.1 result }
     {
         let items = self.evaluate_kids::<J, L>(alloc, operator, class, kids, steps)?;
         self.add_plain(items)
@@ -142,25 +131,17 @@ impl<'r> Pass<'r> {
         seen: Seen,
         steps: &mut Steps<L>,
     ) -> Result<Label, NoMemory>
-        requires kids { (is : List Items) × KidsAre (Means self.old.hand.seat.me.0 self.old.plain.items) kids.0 kids.1 is × AreKidSets self.old.normal.now is }
-        requires class { IsClassOver self.old.normal.now class kids.0 }
-        requires room { length self.old.plain.items < 2 ^ 32 }
-        requires key { (J.key ≡ key) × IsKey key × (key < 2 ^ 48) × HeldKey self.old.hand.seat.me.0 key J.ask × In J.ask J.asks }
-        requires node { AreNumbered kids.0 kids.1 × HasPackedKids J.ask × ((is : List Items) → KidsAre (Means self.old.hand.seat.me.0 self.old.plain.items) kids.0 kids.1 is → node_key J.ask ≡ key_of operator class is) }
+        requires may { MayLabel (told_of_pass self.old) operator class kids.0 kids.1 }
+        requires doing { (J.key ≡ key) × In J.ask J.asks }
+        requires node { IsNodeKey self.old key J.ask operator class kids.0 kids.1 }
         requires walked { IsSeen self.old.hand.seat.me.0 key J.ask self.old.row_full seen }
         requires missed { (n : ℕ) → seen ≡ Seen.Number n → ⊥ }
         ensures grown { Grown J.asks self.old.hand.seat.me.0 self.new.hand.seat.me.0 }
-        ensures kept { (self.new.hand.rows ≡ self.old.hand.rows) × (self.new.normal ≡ self.old.normal) }
-        ensures row_full { self.old.row_full ≡ true → self.new.row_full ≡ true }
-        ensures plain { IsPlainAfter self.old.plain.items self.new.plain.items result }
-        ensures labelled { IfOk result (λ l. (is : List Items) → KidsAre (Means self.old.hand.seat.me.0 self.old.plain.items) kids.0 kids.1 is
-            → IsLabelled (told_by self.old.normal.now self.new.hand.seat.me.0 self.new.plain.items self.new.used_up self.new.row_full) operator class kids.0 kids.1 is l) }
+        ensures left { LeavesPass self.old self.new result steps.old steps.new }
+        ensures labelled { LabelsNode self.old self.new operator class kids.0 kids.1 result }
         ensures published { IsTabledAs self.new.hand.seat.me.0 J.ask self.new.row_full result }
         ensures cause { PlainCause self.old.hand.seat.me.0 self.old.spare self.old.hand.rows.now.table.shared.key J.ask self.new.used_up self.new.hand.seat.me.0 result }
-        ensures counted { CountsSteps self.old.evaluated self.new.evaluated steps.old steps.new }
-        ensures refused { OnErr result (self.new.spare ≡ self.old.spare) }
         ensures known { (n : ℕ) → KnowsKey self.old.hand.seat.me.0 J.ask n → seen ≡ Seen.Full → IfOk result (λ l. l ≡ Label.Numbered n) }
-        ensures steps { steps.old ≤ steps.new }
     {
         follows_is_one();
         let items = self.evaluate_kids::<J, L>(alloc, operator, class, kids, steps)?;
@@ -189,25 +170,17 @@ impl<'r> Pass<'r> {
         key: u64,
         steps: &mut Steps<L>,
     ) -> Result<Label, NoMemory>
-        requires kids { (is : List Items) × KidsAre (Means self.old.hand.seat.me.0 self.old.plain.items) kids.0 kids.1 is × AreKidSets self.old.normal.now is }
-        requires class { IsClassOver self.old.normal.now class kids.0 }
-        requires room { length self.old.plain.items < 2 ^ 32 }
-        requires key { (J.key ≡ key) × IsKey key × (key < 2 ^ 48) × HeldKey self.old.hand.seat.me.0 key J.ask × In J.ask J.asks }
-        requires node { AreNumbered kids.0 kids.1 × HasPackedKids J.ask × ((is : List Items) → KidsAre (Means self.old.hand.seat.me.0 self.old.plain.items) kids.0 kids.1 is → node_key J.ask ≡ key_of operator class is) }
+        requires may { MayLabel (told_of_pass self.old) operator class kids.0 kids.1 }
+        requires doing { (J.key ≡ key) × In J.ask J.asks }
+        requires node { IsNodeKey self.old key J.ask operator class kids.0 kids.1 }
         ensures grown { Grown J.asks self.old.hand.seat.me.0 self.new.hand.seat.me.0 }
-        ensures kept { (self.new.hand.rows ≡ self.old.hand.rows) × (self.new.normal ≡ self.old.normal) }
-        ensures row_full { self.old.row_full ≡ true → self.new.row_full ≡ true }
-        ensures plain { IsPlainAfter self.old.plain.items self.new.plain.items result }
-        ensures labelled { IfOk result (λ l. (is : List Items) → KidsAre (Means self.old.hand.seat.me.0 self.old.plain.items) kids.0 kids.1 is
-            → IsLabelled (told_by self.old.normal.now self.new.hand.seat.me.0 self.new.plain.items self.new.used_up self.new.row_full) operator class kids.0 kids.1 is l) }
-        ensures hit { AnswersKnown self.old.hand.seat.me.0 J.ask self.old.row_full self.new.row_full steps.old steps.new result }
+        ensures left { LeavesPass self.old self.new result steps.old steps.new }
+        ensures labelled { LabelsNode self.old self.new operator class kids.0 kids.1 result }
+        ensures hit { AnswersKnown self.old self.new J.ask result steps.old steps.new }
         ensures published { IsTabledAs self.new.hand.seat.me.0 J.ask self.new.row_full result }
         ensures cause { PlainCause self.old.hand.seat.me.0 self.old.spare self.old.hand.rows.now.table.shared.key J.ask self.new.used_up self.new.hand.seat.me.0 result }
-        ensures counted { CountsSteps self.old.evaluated self.new.evaluated steps.old steps.new }
-        ensures refused { OnErr result (self.new.spare ≡ self.old.spare) }
         ensures known { (n : ℕ) → KnowsKey self.old.hand.seat.me.0 J.ask n → IfOk result (λ l. l ≡ Label.Numbered n) }
         ensures looked { LooksMarked self.old.hand.seat.me.0 self.new.hand.seat.me.0 key J.ask self.old.row_full }
-        ensures steps { steps.old ≤ steps.new }
     {
         let seen = self.find_key::<J>(key);
         match seen {
@@ -225,23 +198,15 @@ impl<'r> Pass<'r> {
         kids: (Option<Label>, Option<Label>),
         steps: &mut Steps<L>,
     ) -> Result<Label, NoMemory>
-        requires kids { (is : List Items) × KidsAre (Means self.old.hand.seat.me.0 self.old.plain.items) kids.0 kids.1 is × AreKidSets self.old.normal.now is }
-        requires class { IsClassOver self.old.normal.now class kids.0 }
-        requires room { length self.old.plain.items < 2 ^ 32 }
+        requires may { MayLabel (told_of_pass self.old) operator class kids.0 kids.1 }
         ensures grown { GrownFor self.old.hand.seat.me.0 self.old.plain.items operator class kids.0 kids.1 self.new.hand.seat.me.0 }
-        ensures kept { (self.new.hand.rows ≡ self.old.hand.rows) × (self.new.normal ≡ self.old.normal) }
-        ensures row_full { self.old.row_full ≡ true → self.new.row_full ≡ true }
-        ensures plain { IsPlainAfter self.old.plain.items self.new.plain.items result }
-        ensures labelled { IfOk result (λ l. (is : List Items) → KidsAre (Means self.old.hand.seat.me.0 self.old.plain.items) kids.0 kids.1 is
-            → IsLabelled (told_by self.old.normal.now self.new.hand.seat.me.0 self.new.plain.items self.new.used_up self.new.row_full) operator class kids.0 kids.1 is l) }
-        ensures hit { (x : ℕ) → key_number operator class kids.0 kids.1 ≡ Some x → AnswersKnown self.old.hand.seat.me.0 (held_ask self.old.hand.seat.me.0 x) self.old.row_full self.new.row_full steps.old steps.new result }
+        ensures left { LeavesPass self.old self.new result steps.old steps.new }
+        ensures labelled { LabelsNode self.old self.new operator class kids.0 kids.1 result }
+        ensures hit { (x : ℕ) → key_number operator class kids.0 kids.1 ≡ Some x → AnswersKnown self.old self.new (held_ask self.old.hand.seat.me.0 x) result steps.old steps.new }
         ensures published { (x : ℕ) → key_number operator class kids.0 kids.1 ≡ Some x → IsTabledAs self.new.hand.seat.me.0 (held_ask self.old.hand.seat.me.0 x) self.new.row_full result }
         ensures cause { (x : ℕ) → key_number operator class kids.0 kids.1 ≡ Some x → PlainCause self.old.hand.seat.me.0 self.old.spare self.old.hand.rows.now.table.shared.key (held_ask self.old.hand.seat.me.0 x) self.new.used_up self.new.hand.seat.me.0 result }
-        ensures counted { CountsSteps self.old.evaluated self.new.evaluated steps.old steps.new }
-        ensures refused { OnErr result (self.new.spare ≡ self.old.spare) }
         ensures known { (x n : ℕ) → key_number operator class kids.0 kids.1 ≡ Some x → KnowsKey self.old.hand.seat.me.0 (held_ask self.old.hand.seat.me.0 x) n → IfOk result (λ l. l ≡ Label.Numbered n) }
         ensures looked { (x : ℕ) → key_number operator class kids.0 kids.1 ≡ Some x → LooksMarked self.old.hand.seat.me.0 self.new.hand.seat.me.0 x (held_ask self.old.hand.seat.me.0 x) self.old.row_full }
-        ensures steps { steps.old ≤ steps.new }
     {
         match key_number(operator, class, kids) {
             None => self.answer_over_plain::<Brand, L>(alloc, operator, class, kids, steps),

@@ -1,8 +1,8 @@
 //! How a table is made, with a part for each worker.
 ghost use Rattle.std.specs.Prelude.{◌≡◌, ◌≤◌, [], length, IfOk};
 ghost use Rattle.sel_law.specs.Kinds.{first_view};
-ghost use Rattle.sel_rows.specs.Parts.{IsFresh, AreFresh, IsSettingOf};
-ghost use Rattle.sel_rows.specs.Tables.{id_of, setting_of, view_of, IsPartOf, ArePartsOf, IsFirst};
+ghost use Rattle.sel_rows.specs.Parts.{AreFresh, IsSettingOf};
+ghost use Rattle.sel_rows.specs.Tables.{id_of, setting_of, IsPartOf, ArePartsOf, IsFirst};
 
 use crate::part::PassPart;
 use crate::rows::Rows;

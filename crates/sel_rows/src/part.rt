@@ -1,5 +1,5 @@
 //! What is left of a pass between its times.
-ghost use Rattle.std.specs.Prelude.{◌≡◌, ◌≤◌, ◌<◌, ℕ, [], true, false, Some, None};
+ghost use Rattle.std.specs.Prelude.{◌≡◌, ◌≤◌, ◌<◌, ℕ, [], true, Some};
 
 use sel_law::Worker;
 use std::alloc::Global;

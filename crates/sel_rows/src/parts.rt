@@ -1,6 +1,6 @@
 //! Parts of a table: given to passes and taken back, split and joined.
 ghost use Rattle.std.specs.Prelude.{◌≡◌, ◌≤◌, [], None};
-ghost use Rattle.sel_rows.specs.Told.{Standing, pass_view, standing_of, told_of_pass, evaluated_of, plain_of};
+ghost use Rattle.sel_rows.specs.Told.{standing_of, told_of_pass, evaluated_of, plain_of};
 ghost use Rattle.sel_rows.specs.Parts.{PartOf, part_spare, part_used_up, part_row_full, part_evaluated};
 ghost use Rattle.sel_rows.specs.Tables.{id_of, setting_of, view_of, IsPartOf, IsPassOf, AreSplit, IsJoined};
 

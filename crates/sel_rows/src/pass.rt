@@ -1,5 +1,5 @@
 //! A worker's pass over the shared table.
-ghost use Rattle.std.specs.Prelude.{◌≡◌, ◌≤◌, ◌<◌, ℕ, [], true, false, Some, None};
+ghost use Rattle.std.specs.Prelude.{◌≡◌, ◌≤◌, ◌<◌, ℕ, true, Some};
 
 use crate::hand::Hand;
 use sel_items::Items;

@@ -1,9 +1,9 @@
 //! Draws, drafts and the publication of a state.
-ghost use Rattle.std.specs.Prelude.{◌≡◌, ◌≢◌, ℕ, ◌+◌, ◌*◌, ◌%◌, ◌<◌, ◌≤◌, ◌^◌, List, [], ◌∷◌, ◌++◌, length, slice_index, take, true, false, Some, None, ◌==◌};
+ghost use Rattle.std.specs.Prelude.{◌≡◌, ◌+◌, ◌*◌, ◌<◌, ◌≤◌, ◌^◌, ◌++◌, length, false, Some, None, ◌==◌};
 ghost use Rattle.sel_law.specs.declared.Ask.{Ask};
-ghost use Rattle.sel_law.specs.Words.{content_home, content_at, intern_at, In, IsMadeOf};
-ghost use Rattle.sel_law.specs.Kinds.{HeldNumber, HeldWhole, WalkedStates, OneContent, drew, drafted, stood_as, NotAll, Below};
-ghost use Rattle.sel_rows.specs.Grown.{Grown, KeepsOwn};
+ghost use Rattle.sel_law.specs.Words.{content_at, intern_at, In, IsMadeOf};
+ghost use Rattle.sel_law.specs.Kinds.{WalkedStates, OneContent, drew, drafted, stood_as, NotAll, Below};
+ghost use Rattle.sel_rows.specs.Grown.{Grown};
 ghost use Rattle.sel_rows.specs.Published.{StandsAs};
 
 use crate::found::Won;
@@ -43,6 +43,7 @@ impl<'r> Hand<'r> {
         ensures used_up { self.new.seat.me.0.used_up ≡ self.old.seat.me.0.used_up }
         ensures row_full { self.new.seat.me.0.row_full ≡ self.old.seat.me.0.row_full }
         ensures draft { (self.new.seat.me.0.own ≡ Some number) × (self.new.seat.me.0.draft ≡ items.now) }
+        ensures few { self.new.seat.me.0.steps ≤ self.old.seat.me.0.steps + length items.now }
         ensures same { self.new.rows ≡ self.old.rows }
     {
         let mut index = 0;
@@ -78,6 +79,7 @@ impl<'r> Hand<'r> {
         ensures row_full { self.new.seat.me.0.row_full ≡ self.old.seat.me.0.row_full }
         ensures same { self.new.rows ≡ self.old.rows }
         ensures stands { StandsAs self.old.seat.me.0 self.new.seat.me.0 items.now result }
+        ensures few { self.new.seat.me.0.steps ≤ self.old.seat.me.0.steps + length items.now + 2 * self.old.rows.now.states * (length items.now + 1) }
     {
         self.draft::<Brand>(number, items);
         let count = 2 * self.rows.states;

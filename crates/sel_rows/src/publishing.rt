@@ -1,5 +1,5 @@
 //! Draws and publications of a pass, each as a call of its own.
-ghost use Rattle.std.specs.Prelude.{◌≡◌, ◌<◌, ◌^◌, ◌∷◌, [], ℕ, Some};
+ghost use Rattle.std.specs.Prelude.{◌≡◌, ◌+◌, ◌*◌, ◌<◌, ◌≤◌, length, ◌∷◌, [], ℕ, Some};
 ghost use Rattle.sel_rows.specs.Grown.{KeepsHeld};
 ghost use Rattle.sel_rows.specs.Told.{pass_view, told_of_pass, spare_of};
 ghost use Rattle.sel_rows.specs.Calls.{number_of_key, IsReadableKey, ask_of_key, KeepsPass, HasWords, IsDrawn, IsBehindStates, FollowsFromAsked, StandsFor, IsBehindKeys, IsNumberFor, PlacesKey};
@@ -36,6 +36,7 @@ impl<'r> Pass<'r> {
         ensures stands { StandsFor self.old self.new items.now result }
         ensures marks { ((told_of_pass self.new).used_up ≡ (told_of_pass self.old).used_up) × ((told_of_pass self.new).row_full ≡ (told_of_pass self.old).row_full) }
         ensures kept { KeepsPass [] self.old self.new }
+        ensures few { (pass_view self.new).steps ≤ (pass_view self.old).steps + length items.now.entries + 2 * (pass_view self.old).setting.states * (length items.now.entries + 1) }
     {
         self.normal.is_standing();
         let Some(number) = self.spare else {
@@ -53,7 +54,8 @@ impl<'r> Pass<'r> {
         }
     }
 
-    /// Publishes a key with its number, from the place where its walk ended. It takes no memory.
+    /// Publishes a key with its number, from the place where its walk ended: each word is tried once at most. It takes
+    /// no memory.
     pub fn publish_transition(&mut self, key: Key, place: u32, number: u16) -> Placed
         requires key { IsReadableKey (pass_view self.old) key }
         requires walked { IsBehindKeys (pass_view self.old) key place }
@@ -61,6 +63,7 @@ impl<'r> Pass<'r> {
         ensures placed { PlacesKey self.old self.new (number_of_key key) (ask_of_key (pass_view self.old) key) result }
         ensures spare { (spare_of self.new ≡ spare_of self.old) × ((told_of_pass self.new).used_up ≡ (told_of_pass self.old).used_up) }
         ensures kept { KeepsPass (ask_of_key (pass_view self.old) key ∷ []) self.old self.new }
+        ensures few { (pass_view self.new).steps ≤ (pass_view self.old).steps + (pass_view self.old).setting.rows }
     {
         if self.hand.rows.rows == 0 {
             self.row_full = true;

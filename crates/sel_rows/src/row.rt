@@ -1,5 +1,5 @@
 //! Walks over the row of transitions.
-ghost use Rattle.std.specs.Prelude.{◌≡◌, ◌≢◌, ℕ, ◌+◌, ◌*◌, ◌%◌, ◌/◌, ◌<◌, ◌≤◌, ◌^◌, List, [], ◌∷◌, length, true, false};
+ghost use Rattle.std.specs.Prelude.{◌≡◌, ℕ, ◌+◌, ◌*◌, ◌%◌, ◌/◌, ◌<◌, ◌≤◌, ◌^◌, List};
 ghost use Rattle.sel_law.specs.Words.{IsKey, key_home, In, IsMadeOf};
 ghost use Rattle.sel_law.specs.Kinds.{HeldKey, HeldNumber, HeldWhole, WalkedRow};
 ghost use Rattle.sel_rows.specs.Grown.{Grown, KeepsNumber};
@@ -21,6 +21,7 @@ impl<'r> Hand<'r> {
         ensures found { FoundRow self.old.seat.me.0 self.new.seat.me.0 key J.ask most result }
         ensures full { MarksFull self.old.seat.me.0 self.new.seat.me.0 result }
         ensures known { (n : ℕ) → In (J.ask, n) self.old.seat.me.0.known → FindsKnown self.old.seat.me.0 most n result }
+        ensures few { self.new.seat.me.0.steps ≤ self.old.seat.me.0.steps + most }
     {
         let rows = self.rows.rows;
         let base = 1 + 2 * self.rows.states;
@@ -54,6 +55,7 @@ impl<'r> Hand<'r> {
         ensures same { self.new.rows ≡ self.old.rows }
         ensures full { MarksPlaced self.old.seat.me.0 self.new.seat.me.0 result }
         ensures placed { FoundPlace self.new.seat.me.0 key J.ask result }
+        ensures few { self.new.seat.me.0.steps ≤ self.old.seat.me.0.steps + self.old.rows.now.rows }
     {
         let rows = self.rows.rows;
         let base = 1 + 2 * self.rows.states;

@@ -1,7 +1,7 @@
 //! The walk over the intern row.
-ghost use Rattle.std.specs.Prelude.{◌≡◌, ◌≢◌, ℕ, ◌+◌, ◌*◌, ◌%◌, ◌<◌, ◌≤◌, ◌^◌, List, [], ◌∷◌, length, slice_index, true, false, IfOk};
+ghost use Rattle.std.specs.Prelude.{◌≡◌, ◌+◌, ◌*◌, ◌%◌, ◌<◌, ◌≤◌, ◌^◌, List, length, true, false, IfOk};
 ghost use Rattle.sel_law.specs.declared.Ask.{Ask};
-ghost use Rattle.sel_law.specs.Words.{content_home, content_at, intern_at, In, items_of};
+ghost use Rattle.sel_law.specs.Words.{content_home, intern_at, In, items_of};
 ghost use Rattle.sel_law.specs.Kinds.{HeldNumber, HeldWhole, OneContent, OneNumber, NotAll, Below, TellsStates, seen};
 ghost use Rattle.sel_rows.specs.Grown.{Grown, KeepsOwn};
 ghost use Rattle.sel_rows.specs.Held.{held_content, IsWhole, IsRead};
@@ -63,6 +63,7 @@ impl<'r> Hand<'r> {
         ensures other { result ≡ true → Unlike self.new.seat.me.0 number items.now }
         ensures numbers { result ≡ false → OneNumber self.new.seat.me.0 }
         ensures equal { result ≡ false → HeldWhole self.new.seat.me.0 number items.now × (held_content self.new.seat.me.0 number ≡ items.now) }
+        ensures few { self.new.seat.me.0.steps ≤ self.old.seat.me.0.steps + length items.now }
     {
         let mut index = 0;
         while index < items.len() {
@@ -97,6 +98,7 @@ impl<'r> Hand<'r> {
         ensures found { FoundState self.old.seat.me.0 self.new.seat.me.0 items.now result }
         ensures only { FoundOnly self.new.seat.me.0 items.now result }
         ensures stepped { (b : Ask) → In b J.asks → In b self.new.seat.me.0.asked }
+        ensures few { self.new.seat.me.0.steps ≤ self.old.seat.me.0.steps + 2 * self.old.rows.now.states * (length items.now + 1) }
     {
         let count = 2 * self.rows.states;
         let mut at = home % count;

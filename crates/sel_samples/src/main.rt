@@ -4,6 +4,7 @@
 
 mod command;
 mod counting_gate;
+mod holding_gate;
 mod top_call;
 
 use sel_sheet::run_sheets;

@@ -2,7 +2,8 @@
 // status, and the words alone.
 use crate::command::command_told;
 use crate::counting_gate::CountingGate;
-use sel_base::{MemoryShelf, MemorySink, NoMemory, OpenGate};
+use crate::holding_gate::HoldingGate;
+use sel_base::{Gate, MemoryShelf, MemorySink, NoMemory, OpenGate};
 use sel_cli::run::run;
 use sel_cli::{Status, run_program};
 use sel_sheet::{Answer, Calls, Row, words_of};
@@ -19,8 +20,9 @@ const NOT_TOLD: u64 = 999;
 const NO_MEMORY: u8 = 7;
 
 /// `run`, in a row without a line `call`; `read_words`, in one with `call words`; the trees that pass the gate of
-/// `run`, in one with `call gate`; and `run_program`, in one with `call program`, or with `call unread` where there
-/// is no memory for the words.
+/// `run`, in one with `call gate`; `run` whose gate holds the first tree until N others have left, in one with
+/// `call held N`; and `run_program`, in one with `call program`, or with `call unread` where there is no memory for
+/// the words.
 pub struct TopCall;
 
 // The line speaks of this fault where the status does.
@@ -65,12 +67,13 @@ fn outside_of(alloc: Global, row: &Row<'_>) -> Result<Outside, NoMemory> {
     })
 }
 
-// How the top call ended.
-fn ended<Rt: Threads + Sync>(
+// How the top call with this gate ended.
+fn ended<Rt: Threads + Sync, G: Gate + Sync>(
     rt: &Rt,
     alloc: Global,
     row: &Row<'_>,
     words: &str,
+    gate: &G,
 ) -> Result<Answer, NoMemory> {
     let words = words_of(alloc, words)?;
     let Outside {
@@ -78,7 +81,7 @@ fn ended<Rt: Threads + Sync>(
         mut out,
         mut err,
     } = outside_of(alloc, row)?;
-    let (status, _) = run(rt, alloc, &words, &mut shelf, &mut out, &mut err, &OpenGate);
+    let (status, _) = run(rt, alloc, &words, &mut shelf, &mut out, &mut err, gate);
     let is_told = is_told(&status, alloc, err.bytes())?;
     Ok(Answer {
         out: Vec::from_slice(alloc, out.bytes())?,
@@ -90,6 +93,23 @@ fn ended<Rt: Threads + Sync>(
         },
         no_memory: status == Status::NoMemory,
     })
+}
+
+// How the top call ended whose gate holds the first tree until so many others have left. Where the gate was given up,
+// a line on the error stream says so.
+fn held<Rt: Threads + Sync>(
+    rt: &Rt,
+    alloc: Global,
+    row: &Row<'_>,
+    words: &str,
+    until: u64,
+) -> Result<Answer, NoMemory> {
+    let gate = HoldingGate::new(until);
+    let mut answer = ended(rt, alloc, row, words, &gate)?;
+    if gate.was_given_up() {
+        answer.err.extend_from_slice(b"given up\n")?;
+    }
+    Ok(answer)
 }
 
 // Which trees passed the gate of the top call.
@@ -114,6 +134,11 @@ fn passed<Rt: Threads + Sync>(
         status: status.code() as u64,
         no_memory: status == Status::NoMemory,
     })
+}
+
+// How many trees have to leave before the first one enters, in a call that says so.
+fn until_of(call: &str) -> Option<u64> {
+    call.strip_prefix("held ")?.parse::<u64>().ok()
 }
 
 // How the program exits with these words, or with none, since there was no memory for them.
@@ -151,7 +176,10 @@ impl Calls for TopCall {
             "gate" => passed(threads, alloc, row, words),
             "program" => exited(threads, alloc, row, Ok(words_of(alloc, words)?)),
             "unread" => exited(threads, alloc, row, Err(NoMemory)),
-            _ => ended(threads, alloc, row, words),
+            call => match until_of(call) {
+                Some(until) => held(threads, alloc, row, words, until),
+                None => ended(threads, alloc, row, words, &OpenGate),
+            },
         }
     }
 }

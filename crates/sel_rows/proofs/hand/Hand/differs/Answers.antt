@@ -42,6 +42,7 @@ loop-index-init g c = record {
   equal = λ i lt. absurd (omega arith);
   first = λ i lt. absurd (omega arith);
   numbers = λ h. absurd (omega arith);
+  count = (omega arith, omega arith);
 }
 
 pub loop-index-preserved : goal.loop-index-preserved
@@ -67,4 +68,18 @@ loop-index-preserved g c =
           (λ e. ap (held_entry w.contents n) e ∙ (entry_is w n there.1 at found there.0 ∙ (same ∙ ap (slice_index c.args.items.now) (sym e))))
           (λ ne. ap (λ es. held_entry es n k) grown.contents.1 ∙ (entry_front v.contents grown.contents.0 n k (slice_index c.args.items.now k) (i.equal k (omega arith)) ∙ i.first k (omega arith)));
       numbers = λ _. c.entry-found.ensures.numbers;
+      count = (let one = c.entry-found.ensures.exact.steps in let n = i.count.0 in (omega arith, omega arith));
     }
+
+pub returns-then-found-items-clause-few : goal.returns-then-found-items-clause-few
+returns-then-found-items-clause-few g c =
+    let one = c.entry-found.ensures.exact.steps in
+    let count = c.loop-index.invariant.count.0 in
+    let inside = c.loop-index-test.true in
+    omega arith
+
+pub returns-clause-few : goal.returns-clause-few
+returns-clause-few g c =
+    let n = c.loop-index.invariant.count.0 in
+    let m = c.loop-index.invariant.count.1 in
+    omega arith

@@ -1,4 +1,4 @@
-use Rattle.std.proofs.Common.{[], ◌-◌, ◌≡◌, ℕ, ◌<◌, ◌≤◌, length}
+use Rattle.std.proofs.Common.{[], ◌+◌, ◌-◌, ◌≡◌, ℕ, ◌<◌, ◌≤◌, length}
 use Rattle.std.specs.Prelude.{slice_index}
 use Rattle.sel_law.specs.Words.{In}
 use Rattle.sel_law.specs.Kinds.{HeldNumber, OneNumber}
@@ -18,6 +18,7 @@ invariant-loop-index g l = record {
   equal : (i : ℕ) → i < l.index → In (l.number, i, slice_index l.items i) l.self.seat.me.0.contents;
   first : (i : ℕ) → i < l.index → held_entry l.self.seat.me.0.contents l.number i ≡ slice_index l.items i;
   numbers : 1 ≤ l.index → OneNumber l.self.seat.me.0;
+  count : (l.self.seat.me.0.steps ≤ l.fn.self.seat.me.0.steps + l.index) × (l.index ≤ length l.items);
 }
 
 abbrev pub decreases-loop-index : goal.decreases-loop-index

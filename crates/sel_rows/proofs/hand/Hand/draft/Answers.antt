@@ -16,6 +16,7 @@ loop-index-init g c = record {
   draft = λ _. [];
   exact = λ h. absurd (omega arith);
   short = omega arith;
+  count = (omega arith, omega arith);
 }
 
 pub loop-index-preserved : goal.loop-index-preserved
@@ -38,6 +39,7 @@ loop-index-preserved g c =
       draft = ap (take (at + 1)) exact ∙ take_twice items (at + 1);
       exact = λ _. exact;
       short = (let a = take_length items (at + 1) (omega arith) in let b = ap length exact in omega arith);
+      count = (let one : w.steps ≡ v.steps + 1 = ap (λ (y : View). y.steps) is in let n = i.count.0 in (omega arith, omega arith));
     }
 
 pub returns-clause-draft : goal.returns-clause-draft
@@ -48,3 +50,9 @@ returns-clause-draft g c =
     let some_items = c.requires.items.1 in
     let x = i.exact (omega arith) in
     (i.own, x ∙ take_past items c.loop-index.index past)
+
+pub returns-clause-few : goal.returns-clause-few
+returns-clause-few g c =
+    let n = c.loop-index.invariant.count.0 in
+    let m = c.loop-index.invariant.count.1 in
+    omega arith

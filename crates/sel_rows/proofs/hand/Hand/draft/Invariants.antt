@@ -1,4 +1,4 @@
-use Rattle.std.proofs.Common.{[], ◌-◌, ◌≡◌, ◌≤◌, length, take, Some}
+use Rattle.std.proofs.Common.{[], ◌+◌, ◌-◌, ◌≡◌, ◌≤◌, length, take, Some}
 use Rattle.sel_rows.specs.Grown.{Grown}
 use Rattle.sel_rows.proofs.hand.Hand.draft.Given as goal
 
@@ -15,6 +15,7 @@ invariant-loop-index g l = record {
   draft : take l.index l.self.seat.me.0.draft ≡ take l.index l.items;
   exact : 1 ≤ l.index → l.self.seat.me.0.draft ≡ take l.index l.items;
   short : l.index ≤ length l.self.seat.me.0.draft;
+  count : (l.self.seat.me.0.steps ≤ l.fn.self.seat.me.0.steps + l.index) × (l.index ≤ length l.items);
 }
 
 abbrev pub decreases-loop-index : goal.decreases-loop-index

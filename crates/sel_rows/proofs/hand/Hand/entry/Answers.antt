@@ -35,4 +35,5 @@ returns-clause-exact g c =
       known = ap (λ (y : View). y.known) is;
       asked = ap (λ (y : View). y.asked) is;
       contents = ap (λ (y : View). y.contents) is ∙ (λ k. v.contents ++ (c.requires.about.0 k, c.requires.about.1 k, c.read_as.result) ∷ []);
+      steps = ap (λ (y : View). y.steps) is;
     }

@@ -1,4 +1,4 @@
-use Rattle.std.proofs.Common.{◌≡◌, ◌≢◌, ◌+◌, ◌-◌, ◌*◌, sym, ap, ◌∙◌, subst, arith, inl}
+use Rattle.std.proofs.Common.{◌≡◌, ◌≢◌, ◌+◌, ◌-◌, ◌*◌, length, sym, ap, ◌∙◌, subst, arith, inl}
 use Rattle.sel_law.specs.declared.Setting.{Setting}
 use Rattle.sel_law.specs.declared.View.{View}
 use Rattle.sel_law.specs.Words.{In, intern_at, walk, content_home}
@@ -6,6 +6,7 @@ use Rattle.sel_law.specs.Kinds.{HeldNumber}
 use Rattle.sel_rows.proofs.Places.{walk_next, walk_around}
 use Rattle.sel_rows.proofs.Growth.{grown_then, grown_seen, number_grown, other_state_grown}
 use Rattle.sel_rows.proofs.Interns.{none_has, none_holds, own_then, own_seen, seen_there, seen_asks, walked_from, others_on, never_all}
+use Rattle.sel_rows.proofs.StepCounts.{look_on, look_within}
 use Rattle.sel_rows.proofs.hand.Hand.find_state.Goals as goal
 
 pub returns-then-found-eq0-clause-grown : goal.returns-then-found-eq0-clause-grown
@@ -306,6 +307,7 @@ loop-steps-preserved-then-at-count g c =
       own = own_then u v y i.own (own_then v w y own d.own);
       others = others_on asks v y more items count c.args.home at c.loop-steps.steps n i.place.0 i.others there (d.other c.if-not-differs.false);
       goes_on = never_all v items count c.args.home at c.loop-steps.steps found cv (omega arith) i.place.0 some_found i.others c.look-found.ensures.told.0;
+      count = look_on u.steps v.steps y.steps c.loop-steps.steps (length items + 1) i.count (let one : w.steps ≡ v.steps + 1 = ap (λ (x : View). x.steps) c.look-found.ensures.view in let more = d.few in omega arith);
     }
 
 pub loop-steps-preserved : goal.loop-steps-preserved
@@ -344,4 +346,23 @@ loop-steps-preserved g c =
       own = own_then u v y i.own (own_then v w y own d.own);
       others = others_on asks v y more items count c.args.home at c.loop-steps.steps n i.place.0 i.others there (d.other c.if-not-differs.false);
       goes_on = never_all v items count c.args.home at c.loop-steps.steps found cv (omega arith) i.place.0 some_found i.others c.look-found.ensures.told.0;
+      count = look_on u.steps v.steps y.steps c.loop-steps.steps (length items + 1) i.count (let one : w.steps ≡ v.steps + 1 = ap (λ (x : View). x.steps) c.look-found.ensures.view in let more = d.few in omega arith);
     }
+
+pub returns-then-found-eq0-clause-few : goal.returns-then-found-eq0-clause-few
+returns-then-found-eq0-clause-few g c =
+    let v = c.loop-steps.self.seat.me.0 in
+    let w = c.look-found.new.self.seat.me.0 in
+    let n = length c.args.items.now + 1 in
+    let one : w.steps ≡ v.steps + 1 = ap (λ (x : View). x.steps) c.look-found.ensures.view in
+    look_within c.args.self.now.seat.me.0.steps v.steps w.steps c.loop-steps.steps n (2 * c.args.self.now.rows.now.states) c.loop-steps.invariant.count c.loop-steps-test.true (omega arith)
+
+pub returns-then-not-differs-clause-few : goal.returns-then-not-differs-clause-few
+returns-then-not-differs-clause-few g c =
+    let v = c.loop-steps.self.seat.me.0 in
+    let w = c.look-found.new.self.seat.me.0 in
+    let y = c.differs.new.self.seat.me.0 in
+    let n = length c.args.items.now + 1 in
+    let one : w.steps ≡ v.steps + 1 = ap (λ (x : View). x.steps) c.look-found.ensures.view in
+    let more = c.differs.ensures.few in
+    look_within c.args.self.now.seat.me.0.steps v.steps y.steps c.loop-steps.steps n (2 * c.args.self.now.rows.now.states) c.loop-steps.invariant.count c.loop-steps-test.true (omega arith)

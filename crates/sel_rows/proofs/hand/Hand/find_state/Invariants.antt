@@ -1,4 +1,4 @@
-use Rattle.std.proofs.Common.{[], ◌-◌, ◌≡◌, ℕ, ◌<◌, ◌≤◌}
+use Rattle.std.proofs.Common.{[], ◌+◌, ◌-◌, ◌*◌, ◌≡◌, ℕ, ◌<◌, ◌≤◌, length}
 use Rattle.sel_law.specs.Words.{walk}
 use Rattle.sel_law.specs.Kinds.{OtherState}
 use Rattle.sel_rows.specs.Grown.{Grown, KeepsOwn}
@@ -18,6 +18,7 @@ invariant-loop-steps g l = record {
   own : KeepsOwn l.fn.self.seat.me.0 l.self.seat.me.0;
   others : (j : ℕ) → j < l.steps → OtherState l.self.seat.me.0 l.items (walk l.count l.home j);
   goes_on : l.steps ≡ l.count → ⊥;
+  count : l.self.seat.me.0.steps ≤ l.fn.self.seat.me.0.steps + l.steps * (length l.items + 1);
 }
 
 abbrev pub decreases-loop-steps : goal.decreases-loop-steps

@@ -1,4 +1,4 @@
-use Rattle.std.proofs.Common.{◌≡◌, ℕ, ◌+◌, ◌*◌, ◌%◌, ◌<◌, ◌≤◌, [], ◌∷◌, true, false, sym, ap, ◌∙◌, subst, arith, refl, inl, eq-eqb, ne_eqb}
+use Rattle.std.proofs.Common.{◌≡◌, ℕ, ◌+◌, ◌*◌, ◌%◌, ◌<◌, ◌≤◌, ◌==◌, Bool, List, [], ◌∷◌, true, false, sym, ap, ◌∙◌, subst, arith, refl, inl, eq-eqb, ne_eqb}
 use Rattle.sel_law.specs.declared.Setting.{Setting}
 use Rattle.sel_law.specs.declared.Ask.{Ask}
 use Rattle.sel_law.specs.declared.View.{View}
@@ -43,6 +43,7 @@ loop-steps-init g c =
       others = λ j l. subst (OtherKey u x) (sym (λ i. walk (rs i) (home_is i) j)) (wk.3 j (omega arith));
       marks = λ f. inl f;
       done = λ e. absurd (omega arith);
+      count = omega arith;
     }
 
 pub place_as-found-requires-clause-word : goal.place_as-found-requires-clause-word
@@ -390,6 +391,7 @@ loop-steps-preserved-then-at-rows g c =
       others = all;
       marks = λ f. marks_looked v w asks x a d place found is k.3 u inv.marks f;
       done = λ e. full_looked v w asks x a d place found is m h rs (λ j lt. all j (omega arith));
+      count = (let one : w.steps ≡ v.steps + 1 = ap (λ (y : View). y.steps) is in let n = inv.count in omega arith);
     }
 
 pub loop-steps-preserved : goal.loop-steps-preserved
@@ -433,6 +435,7 @@ loop-steps-preserved g c =
       others = all;
       marks = λ f. marks_looked v w asks x a d place found is k.3 u inv.marks f;
       done = λ e. full_looked v w asks x a d place found is m h rs (λ j lt. all j (omega arith));
+      count = (let one : w.steps ≡ v.steps + 1 = ap (λ (y : View). y.steps) is in let n = inv.count in omega arith);
     }
 
 pub returns-clause-placed : goal.returns-clause-placed
@@ -448,3 +451,35 @@ returns-clause-placed g c =
     let past = c.loop-steps-test.false in
     let end = inv.place.2 in
     (inv.done (omega arith), λ j lt. subst (OtherKey v x) (λ i. walk (rs i) (home_is i) j) (inv.others j (omega arith)))
+
+-- an exchange is one step, whether it is won or not
+placed_steps : (b : Bool) (v : View) (asks : List Ask) (x : ℕ) (a : Ask) (d : List ℕ) (place n found : ℕ) → (placed_as b v asks x a d place n found).steps ≡ v.steps + 1
+placed_steps true v asks x a d place n found = refl
+placed_steps false v asks x a d place n found = refl
+
+last_step : (u v w rows steps : ℕ) → v ≤ u + steps → steps < rows → w ≡ v + 1 → w ≤ u + rows
+last_step u v w rows steps e lt is = omega (arith, e, lt, is)
+
+pub returns-then-found-eq0-clause-few : goal.returns-then-found-eq0-clause-few
+returns-then-found-eq0-clause-few g c =
+    let v = c.loop-steps.self.seat.me.0 in
+    let found = c.place_as-found.result in
+    let e = c.place_as-found.ensures in
+    let place : ℕ = 1 + 2 * c.args.self.now.rows.now.states + c.loop-steps.at in
+    last_step c.args.self.now.seat.me.0.steps v.steps c.place_as-found.new.seat.me.0.steps c.args.self.now.rows.now.rows c.loop-steps.steps c.loop-steps.invariant.count c.loop-steps-test.true
+    (ap (λ m. (m.0).steps) e.1.1 ∙ placed_steps (found == 0) v g.J.Doing.asks g.J.Doing.key g.J.Doing.ask e.1.0 place g.J.Doing.number found)
+
+pub returns-then-found-key-clause-few : goal.returns-then-found-key-clause-few
+returns-then-found-key-clause-few g c =
+    let v = c.loop-steps.self.seat.me.0 in
+    let found = c.place_as-found.result in
+    let e = c.place_as-found.ensures in
+    let place : ℕ = 1 + 2 * c.args.self.now.rows.now.states + c.loop-steps.at in
+    last_step c.args.self.now.seat.me.0.steps v.steps c.place_as-found.new.seat.me.0.steps c.args.self.now.rows.now.rows c.loop-steps.steps c.loop-steps.invariant.count c.loop-steps-test.true
+    (ap (λ m. (m.0).steps) e.1.1 ∙ placed_steps (found == 0) v g.J.Doing.asks g.J.Doing.key g.J.Doing.ask e.1.0 place g.J.Doing.number found)
+
+pub returns-clause-few : goal.returns-clause-few
+returns-clause-few g c =
+    let count = c.loop-steps.invariant.count in
+    let end = c.loop-steps.invariant.place.2 in
+    omega arith

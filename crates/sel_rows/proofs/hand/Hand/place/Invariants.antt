@@ -1,4 +1,4 @@
-use Rattle.std.proofs.Common.{◌⊎◌, ◌-◌, ◌≡◌, ℕ, ◌<◌, ◌≤◌, true, List}
+use Rattle.std.proofs.Common.{◌⊎◌, ◌+◌, ◌-◌, ◌≡◌, ℕ, ◌<◌, ◌≤◌, true, List}
 use Rattle.sel_law.specs.Words.{walk, IsMadeOf}
 use Rattle.sel_law.specs.Kinds.{HeldKey, AllOther, HeldNumber, HeldWhole, OtherKey}
 use Rattle.sel_rows.specs.Grown.{Grown, KeepsNumber}
@@ -16,6 +16,7 @@ invariant-loop-steps g l = record {
   others : (j : ℕ) → j < l.steps → OtherKey l.self.seat.me.0 l.key (walk l.rows l.home j);
   marks : l.self.seat.me.0.row_full ≡ true → (l.fn.self.seat.me.0.row_full ≡ true) ⊎ AllOther l.self.seat.me.0 l.key;
   done : l.steps ≡ l.rows → l.self.seat.me.0.row_full ≡ true;
+  count : l.self.seat.me.0.steps ≤ l.fn.self.seat.me.0.steps + l.steps;
 }
 
 abbrev pub decreases-loop-steps : goal.decreases-loop-steps

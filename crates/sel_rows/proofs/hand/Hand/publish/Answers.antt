@@ -1,4 +1,4 @@
-use Rattle.std.proofs.Common.{◌≡◌, ◌≢◌, ℕ, ◌+◌, ◌-◌, ◌≤◌, List, length, sym, ap, ◌∙◌, subst, arith, inl, ⊎_elim}
+use Rattle.std.proofs.Common.{◌≡◌, ◌≢◌, ℕ, ◌+◌, ◌-◌, ◌*◌, ◌≤◌, List, length, sym, ap, ◌∙◌, subst, arith, inl, ⊎_elim}
 use Rattle.sel_law.specs.declared.Setting.{Setting}
 use Rattle.sel_law.specs.declared.View.{View}
 use Rattle.sel_law.specs.Words.{In, intern_at, IsMadeOf}
@@ -7,7 +7,11 @@ use Rattle.sel_law.proofs.Base.{in_front, in_back, in_split}
 use Rattle.sel_rows.proofs.Growth.{grown_then, grown_seen, grown_stood, number_grown, walked_states_grown}
 use Rattle.sel_rows.proofs.Interns.{own_then, own_seen, seen_there}
 use Rattle.sel_rows.proofs.Publishes.{won, lost, stands_whole, step_goes, step_around, step_on}
+use Rattle.sel_rows.proofs.StepCounts.{look_off, look_last}
 use Rattle.sel_rows.proofs.hand.Hand.publish.Goals as goal
+
+count_first : (u v n m : ℕ) → v ≤ u + n → v + m * (n + 1) ≤ u + n + m * (n + 1)
+count_first u v n m e = omega arith
 
 pub loop-left-init : goal.loop-left-init
 loop-left-init g c =
@@ -25,6 +29,7 @@ loop-left-init g c =
       own = c.draft.ensures.draft.0;
       draft = c.draft.ensures.draft.1;
       inside = omega arith;
+      count = (let few = c.draft.ensures.few in count_first u.steps v.steps (length items) (2 * c.draft.new.self.rows.now.states) few);
       walked = (wk.0, omega arith);
     }
 
@@ -337,6 +342,7 @@ loop-left-preserved-then-at-count g c =
       own = ownd.own ∙ i.own;
       draft = ownd.draft ∙ i.draft;
       inside = (let t = c.if-at-count.true in omega arith);
+      count = look_off v.steps y.steps c.loop-left.left (length items + 1) _ i.count c.loop-left-test.true (let one : w.steps ≡ v.steps + 1 = ap (λ (x : View). x.steps) look in let few = d.few in omega arith);
       walked = (next.0, (let k = next.1 in let a = i.walked.1 in let b = c.loop-left-test.true in omega arith));
     }
 
@@ -380,5 +386,32 @@ loop-left-preserved g c =
       own = ownd.own ∙ i.own;
       draft = ownd.draft ∙ i.draft;
       inside = (let t = c.if-at-count.false in omega arith);
+      count = look_off v.steps y.steps c.loop-left.left (length items + 1) _ i.count c.loop-left-test.true (let one : w.steps ≡ v.steps + 1 = ap (λ (x : View). x.steps) look in let few = d.few in omega arith);
       walked = (next.0, (let k = next.1 in let a = i.walked.1 in let b = c.loop-left-test.true in omega arith));
     }
+
+pub returns-then-found-eq0-clause-few : goal.returns-then-found-eq0-clause-few
+returns-then-found-eq0-clause-few g c =
+    let i = c.loop-left.invariant in
+    let items = c.args.items.now in
+    let u = c.args.self.now.seat.me.0 in
+    let v = c.loop-left.self.seat.me.0 in
+    let w = c.stand-found.new.self.seat.me.0 in
+    let won_is = won v w g.J.Doing.asks (intern_at c.loop-left.at) c.args.number c.stand-found.result c.stand-found.ensures.view c.if-found-eq0.true in
+    let one : w.steps ≡ v.steps + 1 = ap (λ (x : View). x.steps) won_is in
+    let dr : c.draft.new.self.rows.now.states ≡ c.args.self.now.rows.now.states = ap (λ r. r.now.states) c.draft.ensures.same in
+    subst (λ s. w.steps ≤ u.steps + length items + 2 * s * (length items + 1)) dr (look_last v.steps w.steps c.loop-left.left (length items + 1) _ i.count c.loop-left-test.true (omega arith))
+
+pub returns-then-not-differs-clause-few : goal.returns-then-not-differs-clause-few
+returns-then-not-differs-clause-few g c =
+    let i = c.loop-left.invariant in
+    let items = c.args.items.now in
+    let u = c.args.self.now.seat.me.0 in
+    let v = c.loop-left.self.seat.me.0 in
+    let w = c.stand-found.new.self.seat.me.0 in
+    let y = c.differs.new.self.seat.me.0 in
+    let look = lost v w g.J.Doing.asks (intern_at c.loop-left.at) c.args.number c.stand-found.result c.stand-found.ensures.view (λ e. c.if-found-eq0.false e) in
+    let one : w.steps ≡ v.steps + 1 = ap (λ (x : View). x.steps) look in
+    let few = c.differs.ensures.few in
+    let dr : c.draft.new.self.rows.now.states ≡ c.args.self.now.rows.now.states = ap (λ r. r.now.states) c.draft.ensures.same in
+    subst (λ s. y.steps ≤ u.steps + length items + 2 * s * (length items + 1)) dr (look_last v.steps y.steps c.loop-left.left (length items + 1) _ i.count c.loop-left-test.true (omega arith))

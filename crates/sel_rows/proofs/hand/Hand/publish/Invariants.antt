@@ -1,4 +1,4 @@
-use Rattle.std.proofs.Common.{◌+◌, ◌≡◌, ◌<◌, ◌≤◌, Some}
+use Rattle.std.proofs.Common.{◌+◌, ◌*◌, ◌≡◌, ◌<◌, ◌≤◌, length, Some}
 use Rattle.sel_law.specs.Kinds.{WalkedStates}
 use Rattle.sel_rows.specs.Grown.{Grown}
 use Rattle.sel_rows.proofs.hand.Hand.publish.Given as goal
@@ -21,6 +21,7 @@ invariant-loop-left g l = record {
   own : l.self.seat.me.0.own ≡ Some l.number;
   draft : l.self.seat.me.0.draft ≡ l.items;
   inside : l.at < l.count;
+  count : l.self.seat.me.0.steps + l.left * (length l.items + 1) ≤ l.fn.self.seat.me.0.steps + length l.items + l.count * (length l.items + 1);
   walked : (w : WalkedStates l.self.seat.me.0 l.items l.at) × (l.count ≤ w.0 + l.left);
 }
 

@@ -398,6 +398,7 @@ loop-steps-preserved-then-at-rows g c =
       marks = λ f. marks_looked v w asks x a d place found is k.3 u inv.marks f;
       done = λ e. full_looked v w asks x a d place found is m h rs (λ j lt. all j (omega arith));
       stays = λ n kn f. inv.stays n kn (e.4 n (inv.grown.known (a, n) kn) f);
+      count = (let one : w.steps ≡ v.steps + 1 = ap (λ (y : View). y.steps) is in let n = inv.count in omega arith);
       asked = inr (asked_looked v w asks x a d place found is k.3);
     }
 
@@ -442,6 +443,7 @@ loop-steps-preserved g c =
       marks = λ f. marks_looked v w asks x a d place found is k.3 u inv.marks f;
       done = λ e. full_looked v w asks x a d place found is m h rs (λ j lt. all j (omega arith));
       stays = λ n kn f. inv.stays n kn (e.4 n (inv.grown.known (a, n) kn) f);
+      count = (let one : w.steps ≡ v.steps + 1 = ap (λ (y : View). y.steps) is in let n = inv.count in omega arith);
       asked = inr (asked_looked v w asks x a d place found is k.3);
     }
 
@@ -493,3 +495,25 @@ returns-clause-known g c =
     λ n kn. dite (ℕ_discrete c.args.most m)
     (λ e. inr (inv.stays n kn (inv.done (omega arith))))
     (λ ne. inl (let r : u.setting.rows ≡ m = ap (λ (y : Setting). y.rows) c.args.self.now.setting ∙ sym c.args.self.now.rows.now.rows_is in omega arith))
+
+-- the last look is one step
+one_more : (u v w most : ℕ) (steps : ℕ) → v ≡ u + steps → steps < most → w ≡ v + 1 → w ≤ u + most
+one_more u v w most steps e lt is = omega (arith, e, lt, is)
+
+pub returns-then-found-eq0-clause-few : goal.returns-then-found-eq0-clause-few
+returns-then-found-eq0-clause-few g c =
+    let inv = c.loop-steps.invariant in
+    one_more c.args.self.now.seat.me.0.steps c.loop-steps.self.seat.me.0.steps c.look_row_as-found.new.seat.me.0.steps c.args.most c.loop-steps.steps inv.count c.loop-steps-test.true
+    (ap (λ m. (m.0).steps) c.look_row_as-found.ensures.1.1)
+
+pub returns-then-found-key-clause-few : goal.returns-then-found-key-clause-few
+returns-then-found-key-clause-few g c =
+    let inv = c.loop-steps.invariant in
+    one_more c.args.self.now.seat.me.0.steps c.loop-steps.self.seat.me.0.steps c.look_row_as-found.new.seat.me.0.steps c.args.most c.loop-steps.steps inv.count c.loop-steps-test.true
+    (ap (λ m. (m.0).steps) c.look_row_as-found.ensures.1.1)
+
+pub returns-clause-few : goal.returns-clause-few
+returns-clause-few g c =
+    let count = c.loop-steps.invariant.count in
+    let end = c.loop-steps.invariant.place.2 in
+    omega arith

@@ -1,4 +1,4 @@
-use Rattle.std.proofs.Common.{◌⊎◌, ◌-◌, ◌≡◌, ℕ, ◌<◌, ◌≤◌, true}
+use Rattle.std.proofs.Common.{◌⊎◌, ◌+◌, ◌-◌, ◌≡◌, ℕ, ◌<◌, ◌≤◌, true}
 use Rattle.sel_law.specs.Words.{walk, In}
 use Rattle.sel_law.specs.Kinds.{HeldKey, AllOther, OtherKey}
 use Rattle.sel_rows.specs.Grown.{Grown, KeepsNumber}
@@ -15,6 +15,7 @@ invariant-loop-steps g l = record {
   marks : l.self.seat.me.0.row_full ≡ true → (l.fn.self.seat.me.0.row_full ≡ true) ⊎ AllOther l.self.seat.me.0 l.key;
   done : l.steps ≡ l.rows → l.self.seat.me.0.row_full ≡ true;
   stays : (n : ℕ) → In (g.J.Doing.ask, n) l.fn.self.seat.me.0.known → l.self.seat.me.0.row_full ≡ true → l.fn.self.seat.me.0.row_full ≡ true;
+  count : l.self.seat.me.0.steps ≡ l.fn.self.seat.me.0.steps + l.steps;
   asked : (l.steps ≡ 0) ⊎ In g.J.Doing.ask l.self.seat.me.0.asked;
 }
 

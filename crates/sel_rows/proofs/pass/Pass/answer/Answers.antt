@@ -17,27 +17,26 @@ some_is x y e = cc
 none_some : (x : ℕ) → None ≡ Some x → ⊥
 none_some x e = cc
 
-pub answer_over_numbers-requires-clause-key : goal.answer_over_numbers-requires-clause-key
-answer_over_numbers-requires-clause-key g c =
-    let s = c.args.self.now in
-    let u = s.hand.seat.me.0 in
-    let x = c.in-Some.key in
-    let ks = c.requires.kids in
-    let few = s.hand.rows.now.small_states.0 in
-    let states : s.hand.rows.now.states ≡ u.setting.states = s.hand.rows.now.states_is ∙ ap (λ (y : Setting). y.states) (sym s.hand.setting) in
-    let f = key_facts s.normal.now u s.plain.items c.args.operator c.args.class x c.args.kids.0 c.args.kids.1 ks.0 (omega arith) (omega arith) (omega arith) c.requires.class (sym c.key_number.ensures ∙ c.in-Some.is) ks.1 in
-    (refl, f.key, f.small, f.held, in_here (held_ask u x) [])
+pub answer_over_numbers-requires-clause-doing : goal.answer_over_numbers-requires-clause-doing
+answer_over_numbers-requires-clause-doing g c = (refl, in_here (held_ask c.args.self.now.hand.seat.me.0 c.in-Some.key) [])
 
 pub answer_over_numbers-requires-clause-node : goal.answer_over_numbers-requires-clause-node
 answer_over_numbers-requires-clause-node g c =
     let s = c.args.self.now in
     let u = s.hand.seat.me.0 in
     let x = c.in-Some.key in
-    let ks = c.requires.kids in
+    let ks = (c.requires.may).kids in
     let few = s.hand.rows.now.small_states.0 in
     let states : s.hand.rows.now.states ≡ u.setting.states = s.hand.rows.now.states_is ∙ ap (λ (y : Setting). y.states) (sym s.hand.setting) in
-    let facts : (is : List Items) → KidsAre (Means u s.plain.items) c.args.kids.0 c.args.kids.1 is → KeyFacts u x c.args.operator c.args.class c.args.kids.0 c.args.kids.1 is = λ is h. key_facts s.normal.now u s.plain.items c.args.operator c.args.class x c.args.kids.0 c.args.kids.1 is (omega arith) (omega arith) (omega arith) c.requires.class (sym c.key_number.ensures ∙ c.in-Some.is) h in
-    ((facts ks.0 ks.1).numbered, (facts ks.0 ks.1).packed, λ is h. (facts is h).node)
+    let facts : (is : List Items) → KidsAre (Means u s.plain.items) c.args.kids.0 c.args.kids.1 is → KeyFacts u x c.args.operator c.args.class c.args.kids.0 c.args.kids.1 is = λ is h. key_facts s.normal.now u s.plain.items c.args.operator c.args.class x c.args.kids.0 c.args.kids.1 is (omega arith) (omega arith) (omega arith) (c.requires.may).over (sym c.key_number.ensures ∙ c.in-Some.is) h in
+    let f = facts ks.0 ks.1 in
+    record {
+      lawful = (f.key, f.small);
+      held = f.held;
+      numbered = f.numbered;
+      packed = f.packed;
+      node = λ is h. (facts is h).node;
+    }
 
 pub returns-in-None-clause-grown : goal.returns-in-None-clause-grown
 returns-in-None-clause-grown g c = record { asks = []; grown = c.answer_over_plain.ensures.grown; own = λ k h. absurd (in_nil k h) }
@@ -47,10 +46,10 @@ returns-in-Some-clause-grown g c =
     let s = c.args.self.now in
     let u = s.hand.seat.me.0 in
     let x = c.in-Some.key in
-    let ks = c.requires.kids in
+    let ks = (c.requires.may).kids in
     let few = s.hand.rows.now.small_states.0 in
     let states : s.hand.rows.now.states ≡ u.setting.states = s.hand.rows.now.states_is ∙ ap (λ (y : Setting). y.states) (sym s.hand.setting) in
-    let facts : (is : List Items) → KidsAre (Means u s.plain.items) c.args.kids.0 c.args.kids.1 is → KeyFacts u x c.args.operator c.args.class c.args.kids.0 c.args.kids.1 is = λ is h. key_facts s.normal.now u s.plain.items c.args.operator c.args.class x c.args.kids.0 c.args.kids.1 is (omega arith) (omega arith) (omega arith) c.requires.class (sym c.key_number.ensures ∙ c.in-Some.is) h in
+    let facts : (is : List Items) → KidsAre (Means u s.plain.items) c.args.kids.0 c.args.kids.1 is → KeyFacts u x c.args.operator c.args.class c.args.kids.0 c.args.kids.1 is = λ is h. key_facts s.normal.now u s.plain.items c.args.operator c.args.class x c.args.kids.0 c.args.kids.1 is (omega arith) (omega arith) (omega arith) (c.requires.may).over (sym c.key_number.ensures ∙ c.in-Some.is) h in
     let ask = held_ask u x in record {
       asks = ask ∷ [];
       grown = c.answer_over_numbers.ensures.grown;
@@ -63,7 +62,7 @@ returns-in-None-clause-hit g c = λ x e. absurd (none_some x (sym (sym c.key_num
 pub returns-in-Some-clause-hit : goal.returns-in-Some-clause-hit
 returns-in-Some-clause-hit g c = λ x e.
     let same : c.in-Some.key ≡ x = some_is c.in-Some.key x (sym (sym c.key_number.ensures ∙ c.in-Some.is) ∙ e) in
-    subst (λ y. AnswersKnown c.args.self.now.hand.seat.me.0 (held_ask c.args.self.now.hand.seat.me.0 y) c.args.self.now.row_full c.answer_over_numbers.new.self.row_full c.args.steps.now c.answer_over_numbers.new.steps c.answer_over_numbers.result) same c.answer_over_numbers.ensures.hit
+    subst (λ y. AnswersKnown c.args.self.now c.answer_over_numbers.new.self (held_ask c.args.self.now.hand.seat.me.0 y) c.answer_over_numbers.result c.args.steps.now c.answer_over_numbers.new.steps) same c.answer_over_numbers.ensures.hit
 
 pub returns-in-None-clause-cause : goal.returns-in-None-clause-cause
 returns-in-None-clause-cause g c = λ x e. absurd (none_some x (sym (sym c.key_number.ensures ∙ c.in-None.is) ∙ e))

@@ -3,16 +3,17 @@ use Rattle.sel_normal.specs.NormalForms.{NormalForm}
 use Rattle.sel_items.specs.declared.items.Items.{Items}
 use Rattle.sel_items.specs.declared.label.Label.TheVariants.{Numbered}
 use Rattle.sel_items.specs.Follows.{key_of}
-use Rattle.sel_items.specs.Labels.{KidsAre, AreKidSets, IsClassOver}
+use Rattle.sel_items.specs.Labels.{KidsAre, AreKidSets, IsClassOver, HasLawfulKids}
 use Rattle.sel_items.specs.Automata.{IsLabelled}
 use Rattle.sel_law.specs.declared.Setting.{Setting}
 use Rattle.sel_rows.specs.declared.found.Seen.TheVariants.{Number}
 use Rattle.sel_rows.specs.Meanings.{told_by, Means}
 use Rattle.sel_rows.specs.Answers.{IsPlainAfter}
+use Rattle.sel_rows.specs.Counts.{CountsSteps}
 use Rattle.sel_rows.specs.FoundRow.{HoldsKey, HoldsOthers}
 use Rattle.sel_rows.proofs.KnownKeys.{knows_grown, is_full, looked_others, others_grown}
 use Rattle.sel_rows.proofs.Growth.{grown_then, key_grown}
-use Rattle.sel_rows.proofs.Labelled.{if_ok_of, labelled_key}
+use Rattle.sel_rows.proofs.Labelled.{if_ok_of, on_err_of, labelled_key}
 use Rattle.sel_rows.proofs.Steps.{kids_keep, kids_one, means_keep, left_before}
 use Rattle.sel_rows.proofs.pass.Pass.answer_over_numbers.Goals as goal
 
@@ -28,8 +29,8 @@ answer_missed-requires g c =
     let u = s.hand.seat.me.0 in
     let v1 = s1.hand.seat.me.0 in
     let e = c.find_key-seen.ensures in
-    let k = c.requires.key in
-    let ks = c.requires.kids in
+    let k = c.requires.node in
+    let ks = (c.requires.may).kids in
     let a = c.args.kids.0 in
     let b = c.args.kids.1 in
     let op = c.args.operator in
@@ -38,13 +39,22 @@ answer_missed-requires g c =
     let moved : (is : List Items) → KidsAre (Means u s.plain.items) a b is → KidsAre (Means v1 s1.plain.items) a b is =
     λ is h. kids_keep (Means u s.plain.items) (Means v1 s1.plain.items) (means_keep asks u v1 e.grown s.plain.items s1.plain.items e.plain) a b is h in
     let long = ap length e.plain in
-    let room = c.requires.room in
+    let room = (c.requires.may).room in
     record {
-      kids = (ks.0, moved ks.0 ks.1, subst (λ (n : NormalForm). AreKidSets n ks.0) (sym same_normal) ks.2);
-      class = subst (λ (n : NormalForm). IsClassOver n class a) (sym same_normal) c.requires.class;
-      room = subst (λ m. m < 4294967296) (sym long) room;
-      key = (k.0, k.1, k.2, key_grown asks u v1 e.grown c.args.key ask k.3, k.4);
-      node = (c.requires.node.0, c.requires.node.1, λ is h. c.requires.node.2 ks.0 ks.1 ∙ ap (λ l. key_of op class l) (kids_one v1 s1.plain.items a b ks.0 is (moved ks.0 ks.1) h));
+      may = record {
+        kids = (ks.0, moved ks.0 ks.1, subst (λ (n : NormalForm). AreKidSets n ks.0) (sym same_normal) ks.2);
+        over = subst (λ (n : NormalForm). IsClassOver n class a) (sym same_normal) (c.requires.may).over;
+        lawful = subst (λ (n : NormalForm). HasLawfulKids n op a b) (sym same_normal) (c.requires.may).lawful;
+        room = subst (λ m. m < 4294967296) (sym long) room;
+      };
+      doing = c.requires.doing;
+      node = record {
+        lawful = k.lawful;
+        held = key_grown asks u v1 e.grown c.args.key ask k.held;
+        numbered = k.numbered;
+        packed = k.packed;
+        node = λ is h. k.node ks.0 ks.1 ∙ ap (λ l. key_of op class l) (kids_one v1 s1.plain.items a b ks.0 is (moved ks.0 ks.1) h);
+      };
       walked = e.seen;
       missed = λ n q. c.in_default.not-Number n q;
     }
@@ -58,8 +68,8 @@ returns-in-Number-clause-labelled g c =
     let u = s.hand.seat.me.0 in
     let v1 = s1.hand.seat.me.0 in
     let e = c.find_key-seen.ensures in
-    let k = c.requires.key in
-    let ks = c.requires.kids in
+    let k = c.requires.node in
+    let ks = (c.requires.may).kids in
     let a = c.args.kids.0 in
     let b = c.args.kids.1 in
     let op = c.args.operator in
@@ -68,7 +78,7 @@ returns-in-Number-clause-labelled g c =
     let moved : (is : List Items) → KidsAre (Means u s.plain.items) a b is → KidsAre (Means v1 s1.plain.items) a b is =
     λ is h. kids_keep (Means u s.plain.items) (Means v1 s1.plain.items) (means_keep asks u v1 e.grown s.plain.items s1.plain.items e.plain) a b is h in
     let form : v1.setting.normal.value ≡ s.normal.now = ap (λ (y : Setting). y.normal.value) s1.hand.setting ∙ (s1.normal_is ∙ same_normal) in
-    λ is kd. labelled_key s.normal.now v1 s1.plain.items s1.used_up s1.row_full op class a b is ask c.in-Number.number c.in-Number.ensures.seen form c.requires.node.0 c.requires.node.1 (c.requires.node.2 is kd)
+    λ is kd. labelled_key s.normal.now v1 s1.plain.items s1.used_up s1.row_full op class a b is ask c.in-Number.number c.in-Number.ensures.seen form k.numbered k.packed (k.node is kd)
 
 pub returns-in-Number-clause-hit : goal.returns-in-Number-clause-hit
 returns-in-Number-clause-hit g c =
@@ -79,8 +89,8 @@ returns-in-Number-clause-hit g c =
     let u = s.hand.seat.me.0 in
     let v1 = s1.hand.seat.me.0 in
     let e = c.find_key-seen.ensures in
-    let k = c.requires.key in
-    let ks = c.requires.kids in
+    let k = c.requires.node in
+    let ks = (c.requires.may).kids in
     let a = c.args.kids.0 in
     let b = c.args.kids.1 in
     let op = c.args.operator in
@@ -88,7 +98,14 @@ returns-in-Number-clause-hit g c =
     let same_normal : s1.normal.now ≡ s.normal.now = ap (λ r. r.now) e.kept.1 in
     let moved : (is : List Items) → KidsAre (Means u s.plain.items) a b is → KidsAre (Means v1 s1.plain.items) a b is =
     λ is h. kids_keep (Means u s.plain.items) (Means v1 s1.plain.items) (means_keep asks u v1 e.grown s.plain.items s1.plain.items e.plain) a b is h in
-    λ n kn rf some. (ap (λ m. Ok (Numbered m)) (number_is c.in-Number.number n (c.in-Number.ensures.known n kn rf some)), refl, c.in-Number.ensures.marks ∙ rf)
+    λ n kn rf some. record {
+      label = ap (λ m. Ok (Numbered m)) (number_is c.in-Number.number n (c.in-Number.ensures.known n kn rf some));
+      no_step = refl;
+      evaluated = e.kept.3;
+      spare = e.kept.2;
+      used_up = e.kept.4;
+      row_full = c.in-Number.ensures.marks ∙ rf;
+    }
 
 pub returns-in_default-clause-grown : goal.returns-in_default-clause-grown
 returns-in_default-clause-grown g c =
@@ -99,8 +116,8 @@ returns-in_default-clause-grown g c =
     let u = s.hand.seat.me.0 in
     let v1 = s1.hand.seat.me.0 in
     let e = c.find_key-seen.ensures in
-    let k = c.requires.key in
-    let ks = c.requires.kids in
+    let k = c.requires.node in
+    let ks = (c.requires.may).kids in
     let a = c.args.kids.0 in
     let b = c.args.kids.1 in
     let op = c.args.operator in
@@ -112,27 +129,34 @@ returns-in_default-clause-grown g c =
     let f = c.answer_missed.ensures in
     grown_then asks u v1 new.hand.seat.me.0 e.grown f.grown
 
-pub returns-in_default-clause-plain : goal.returns-in_default-clause-plain
-returns-in_default-clause-plain g c =
-    let s = c.args.self.now in
-    let s1 = c.find_key-seen.new.self in
-    let asks = g.J.Doing.asks in
-    let ask = g.J.Doing.ask in
-    let u = s.hand.seat.me.0 in
-    let v1 = s1.hand.seat.me.0 in
+pub returns-in-Number-clause-left : goal.returns-in-Number-clause-left
+returns-in-Number-clause-left g c =
     let e = c.find_key-seen.ensures in
-    let k = c.requires.key in
-    let ks = c.requires.kids in
-    let a = c.args.kids.0 in
-    let b = c.args.kids.1 in
-    let op = c.args.operator in
-    let class = c.args.class in
-    let same_normal : s1.normal.now ≡ s.normal.now = ap (λ r. r.now) e.kept.1 in
-    let moved : (is : List Items) → KidsAre (Means u s.plain.items) a b is → KidsAre (Means v1 s1.plain.items) a b is =
-    λ is h. kids_keep (Means u s.plain.items) (Means v1 s1.plain.items) (means_keep asks u v1 e.grown s.plain.items s1.plain.items e.plain) a b is h in
+    record {
+      rows = e.kept.0;
+      normal = e.kept.1;
+      row_full = e.row_full;
+      plain = inl e.plain;
+      counted = inl (e.kept.3, refl);
+      refused = tt;
+      steps = omega arith;
+    }
+
+pub returns-in_default-clause-left : goal.returns-in_default-clause-left
+returns-in_default-clause-left g c =
+    let s = c.args.self.now in
+    let e = c.find_key-seen.ensures in
     let new = c.answer_missed.new.self in
-    let f = c.answer_missed.ensures in
-    subst (λ l. IsPlainAfter l new.plain.items c.answer_missed.result) e.plain f.plain
+    let f = c.answer_missed.ensures.left in
+    record {
+      rows = f.rows ∙ e.kept.0;
+      normal = f.normal ∙ e.kept.1;
+      row_full = λ h. f.row_full (e.row_full h);
+      plain = subst (λ l. IsPlainAfter l new.plain.items c.answer_missed.result) e.plain f.plain;
+      counted = subst (λ m. CountsSteps m new.evaluated c.args.steps.now c.answer_missed.new.steps) e.kept.3 f.counted;
+      refused = on_err_of c.answer_missed.result _ _ (λ h. h ∙ e.kept.2) f.refused;
+      steps = f.steps;
+    }
 
 pub returns-in_default-clause-labelled : goal.returns-in_default-clause-labelled
 returns-in_default-clause-labelled g c =
@@ -143,8 +167,8 @@ returns-in_default-clause-labelled g c =
     let u = s.hand.seat.me.0 in
     let v1 = s1.hand.seat.me.0 in
     let e = c.find_key-seen.ensures in
-    let k = c.requires.key in
-    let ks = c.requires.kids in
+    let k = c.requires.node in
+    let ks = (c.requires.may).kids in
     let a = c.args.kids.0 in
     let b = c.args.kids.1 in
     let op = c.args.operator in
@@ -166,8 +190,8 @@ returns-in_default-clause-hit g c =
     let u = s.hand.seat.me.0 in
     let v1 = s1.hand.seat.me.0 in
     let e = c.find_key-seen.ensures in
-    let k = c.requires.key in
-    let ks = c.requires.kids in
+    let k = c.requires.node in
+    let ks = (c.requires.may).kids in
     let a = c.args.kids.0 in
     let b = c.args.kids.1 in
     let op = c.args.operator in
@@ -188,8 +212,8 @@ returns-in_default-clause-cause g c =
     let u = s.hand.seat.me.0 in
     let v1 = s1.hand.seat.me.0 in
     let e = c.find_key-seen.ensures in
-    let k = c.requires.key in
-    let ks = c.requires.kids in
+    let k = c.requires.node in
+    let ks = (c.requires.may).kids in
     let a = c.args.kids.0 in
     let b = c.args.kids.1 in
     let op = c.args.operator in

@@ -1,4 +1,4 @@
-use Rattle.std.proofs.Common.{[], sym, ap, ◌∙◌, refl, inl}
+use Rattle.std.proofs.Common.{◌≡◌, ◌+◌, ◌*◌, ◌≤◌, length, [], subst, arith, sym, ap, ◌∙◌, refl, inl}
 use Rattle.sel_normal.specs.NormalForms.{NormalForm}
 use Rattle.sel_law.specs.declared.Setting.{Setting}
 use Rattle.sel_law.specs.Words.{content_home}
@@ -38,3 +38,15 @@ returns-clause-kept c =
       plain = refl;
       evaluated = refl;
     }
+
+pub returns-then-self-eq0-clause-few : goal.returns-then-self-eq0-clause-few
+returns-then-self-eq0-clause-few c = omega arith
+
+pub returns-clause-few : goal.returns-clause-few
+returns-clause-few c =
+    let s = c.args.self.now in
+    let v = s.hand.seat.me.0 in
+    let w = c.find_state.new.self.seat.me.0 in
+    let states : s.hand.rows.now.states ≡ v.setting.states = s.hand.rows.now.states_is ∙ ap (λ (y : Setting). y.states) (sym s.hand.setting) in
+    subst (λ k. w.steps ≤ v.steps + 2 * k * (length c.args.items.now.entries + 1)) states
+    (subst (λ l. w.steps ≤ v.steps + 2 * s.hand.rows.now.states * (l + 1)) c.put_words.ensures.long c.find_state.ensures.few)

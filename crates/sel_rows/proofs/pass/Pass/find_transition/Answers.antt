@@ -1,10 +1,11 @@
-use Rattle.std.proofs.Common.{[], ◌∷◌, sym, subst, refl, arith}
+use Rattle.std.proofs.Common.{◌≡◌, ◌+◌, ◌≤◌, [], ◌∷◌, sym, ap, ◌∙◌, subst, refl, arith}
+use Rattle.sel_law.specs.declared.Setting.{Setting}
 use Rattle.sel_law.specs.Words.{In}
 use Rattle.sel_law.proofs.Base.{in_here}
 use Rattle.sel_rows.specs.Held.{held_ask}
 use Rattle.sel_rows.specs.Grown.{Grown}
 use Rattle.sel_rows.specs.Calls.{ask_of_key}
-use Rattle.sel_rows.specs.SeenKey.{WalksRow}
+use Rattle.sel_rows.specs.SeenKey.{walk_length, WalksRow}
 use Rattle.sel_rows.proofs.SingleCalls.{ReadKey, read_key, standing_kept}
 use Rattle.sel_rows.proofs.pass.Pass.find_transition.Goals as goal
 
@@ -42,3 +43,11 @@ returns-clause-kept c =
       plain = e.plain;
       evaluated = e.kept.3;
     }
+
+pub returns-clause-few : goal.returns-clause-few
+returns-clause-few c =
+    let s = c.args.self.now in
+    let v = s.hand.seat.me.0 in
+    let w = c.find_key.new.self.hand.seat.me.0 in
+    let rows : s.hand.rows.now.rows ≡ v.setting.rows = s.hand.rows.now.rows_is ∙ ap (λ (y : Setting). y.rows) (sym s.hand.setting) in
+    subst (λ r. w.steps ≤ v.steps + walk_length s.row_full r) rows c.find_key.ensures.few

@@ -1,4 +1,4 @@
-use Rattle.std.proofs.Common.{◌≡◌, [], length, sym, ap, ◌∙◌, subst, refl, arith}
+use Rattle.std.proofs.Common.{◌≡◌, ◌+◌, ◌*◌, ◌≤◌, [], length, sym, ap, ◌∙◌, subst, refl, arith}
 use Rattle.sel_normal.specs.NormalForms.{NormalForm}
 use Rattle.sel_items.specs.Follows.{Follows}
 use Rattle.sel_law.specs.declared.Setting.{Setting}
@@ -71,3 +71,23 @@ returns-in-Lost-clause-kept c =
       plain = refl;
       evaluated = refl;
     }
+
+pub returns-in-Own-clause-few : goal.returns-in-Own-clause-few
+returns-in-Own-clause-few c =
+    let s = c.args.self.now in
+    let v = s.hand.seat.me.0 in
+    let w = c.publish.new.self.seat.me.0 in
+    let states : s.hand.rows.now.states ≡ v.setting.states = s.hand.rows.now.states_is ∙ ap (λ (y : Setting). y.states) (sym s.hand.setting) in
+    let entries = length c.args.items.now.entries in
+    subst (λ k. w.steps ≤ v.steps + entries + 2 * k * (entries + 1)) states
+    (subst (λ l. w.steps ≤ v.steps + l + 2 * s.hand.rows.now.states * (l + 1)) c.put_words.ensures.long c.publish.ensures.few)
+
+pub returns-in-Lost-clause-few : goal.returns-in-Lost-clause-few
+returns-in-Lost-clause-few c =
+    let s = c.args.self.now in
+    let v = s.hand.seat.me.0 in
+    let w = c.publish.new.self.seat.me.0 in
+    let states : s.hand.rows.now.states ≡ v.setting.states = s.hand.rows.now.states_is ∙ ap (λ (y : Setting). y.states) (sym s.hand.setting) in
+    let entries = length c.args.items.now.entries in
+    subst (λ k. w.steps ≤ v.steps + entries + 2 * k * (entries + 1)) states
+    (subst (λ l. w.steps ≤ v.steps + l + 2 * s.hand.rows.now.states * (l + 1)) c.put_words.ensures.long c.publish.ensures.few)

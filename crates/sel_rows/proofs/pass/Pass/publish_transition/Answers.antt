@@ -1,4 +1,4 @@
-use Rattle.std.proofs.Common.{◌≡◌, ◌<◌, [], ◌∷◌, sym, ap, ◌∙◌, subst, refl, arith, ⊎_elim}
+use Rattle.std.proofs.Common.{◌≡◌, ◌+◌, ◌<◌, ◌≤◌, [], ◌∷◌, sym, ap, ◌∙◌, subst, refl, arith, ⊎_elim}
 use Rattle.sel_items.specs.declared.items.Items.{Items}
 use Rattle.sel_items.specs.Follows.{Follows}
 use Rattle.sel_items.specs.Words.{FitsWords}
@@ -109,3 +109,17 @@ pub returns-in-RowFull-clause-placed : goal.returns-in-RowFull-clause-placed
 returns-in-RowFull-clause-placed c =
     let w = c.place.new.self.seat.me.0 in
     (refl, subst (λ x. HoldsOthers w x w.setting.rows) c.number_of_key-key_number.ensures c.in-RowFull.ensures.placed.1)
+
+pub returns-in-Known-clause-few : goal.returns-in-Known-clause-few
+returns-in-Known-clause-few c =
+    let s = c.args.self.now in
+    let v = s.hand.seat.me.0 in
+    let rows : s.hand.rows.now.rows ≡ v.setting.rows = s.hand.rows.now.rows_is ∙ ap (λ (y : Setting). y.rows) (sym s.hand.setting) in
+    subst (λ r. c.place.new.self.seat.me.0.steps ≤ v.steps + r) rows c.place.ensures.few
+
+pub returns-in-RowFull-clause-few : goal.returns-in-RowFull-clause-few
+returns-in-RowFull-clause-few c =
+    let s = c.args.self.now in
+    let v = s.hand.seat.me.0 in
+    let rows : s.hand.rows.now.rows ≡ v.setting.rows = s.hand.rows.now.rows_is ∙ ap (λ (y : Setting). y.rows) (sym s.hand.setting) in
+    subst (λ r. c.place.new.self.seat.me.0.steps ≤ v.steps + r) rows c.place.ensures.few
