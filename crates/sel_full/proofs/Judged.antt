@@ -26,14 +26,14 @@ all_at P [] k x h at = absurd (some_none (sym at))
 all_at P (y ∷ xs) zero x h at = subst P (some_same at) (All-head P y xs h)
 all_at P (y ∷ xs) (suc k) x h at = all_at P xs k x (All-tail P y xs h) at
 
-taken_get : {A : Type 0} (xs : List A) (k j : ℕ) (x : A) → slice_get (take k xs) j ≡ Some x → (j < k) × (slice_get xs j ≡ Some x)
+pub taken_get : {A : Type 0} (xs : List A) (k j : ℕ) (x : A) → slice_get (take k xs) j ≡ Some x → (j < k) × (slice_get xs j ≡ Some x)
 taken_get [] zero j x at = absurd (some_none (sym at))
 taken_get [] (suc k) j x at = absurd (some_none (sym at))
 taken_get (y ∷ xs) zero j x at = absurd (some_none (sym at))
 taken_get (y ∷ xs) (suc k) zero x at = (omega arith, at)
 taken_get (y ∷ xs) (suc k) (suc j) x at = let (l, there) = taken_get xs k j x at in (omega arith, there)
 
-taken_length : {A : Type 0} (xs : List A) (k : ℕ) → k ≤ length xs → length (take k xs) ≡ k
+pub taken_length : {A : Type 0} (xs : List A) (k : ℕ) → k ≤ length xs → length (take k xs) ≡ k
 taken_length xs zero l = refl
 taken_length [] (suc k) l = absurd (omega arith)
 taken_length (x ∷ xs) (suc k) l = let e = taken_length xs k (omega arith) in omega arith

@@ -95,7 +95,7 @@ module _ (g : Grammar) (normal : NormalForm) (form : IsAcceptedForm g normal) wh
   one_arity : (op j k : ℕ) → HasOperator g op j → HasOperator g op k → j ≡ k
   one_arity op j k (o, at, is) (o', at', is') = some_same (sym is ∙ ap (λ (o : GrammarOperator). o.arity) (some_same (sym at ∙ at')) ∙ is')
 
-  by_rules : (op k : ℕ) → IsUsed normal op k → kids_by normal.rules op ≡ Some k
+  pub by_rules : (op k : ℕ) → IsUsed normal op k → kids_by normal.rules op ≡ Some k
   by_rules op k u = go u.number refl
     where
       go : (n : ℕ) → u.number ≡ n → kids_by normal.rules op ≡ Some k

@@ -14,6 +14,7 @@ pub mod KeySteps
 pub mod ListPlaces
 pub mod Numbered
 pub mod Occurring
+pub mod OneBuild
 pub mod Placing
 pub mod Reaching
 pub mod Results

@@ -1,8 +1,9 @@
 -- What a build answers.
-use Rattle.std.specs.Prelude.{ℕ, ◌<◌, ◌≤◌, ◌⊎◌, pos, neg_ℤ, ◌<ℤ◌, Option, Some, None, List, length}
+use Rattle.std.specs.Prelude.{◌≡◌, ℕ, ◌<◌, ◌≤◌, ◌⊎◌, pos, neg_ℤ, ◌<ℤ◌, Option, Some, None, List, length}
 use Rattle.sel_grammar.specs.declared.grammar.Grammar.{Grammar}
 use Rattle.sel_grammar.specs.Costs.{Cost}
 use Rattle.sel_normal.specs.NormalForms.{NormalForm}
+use Rattle.sel_normal.specs.Standing.{IsStanding}
 use Rattle.sel_items.specs.declared.items.Item.{Item}
 use Rattle.sel_items.specs.declared.items.Items.{Items}
 use Rattle.sel_items.specs.Entries.{item_at}
@@ -68,3 +69,7 @@ IsBuild normal states rows TooLarge = (g : Grammar) → IsAcceptedForm g normal 
 -- No table is complete where its grammar is too large: so each of both answers comes exactly where it is said.
 abbrev pub CompleteIsNotTooLarge : Type 0
 CompleteIsNotTooLarge = (g : Grammar) (normal : NormalForm) (states rows : ℕ) (t : Table) → IsAcceptedForm g normal → IsCompleteTable normal states rows t → IsTooLarge g normal states rows → ⊥
+
+-- A grammar has one complete table, whatever is allowed.
+abbrev pub CompleteIsOne : Type 0
+CompleteIsOne = (g : Grammar) (normal : NormalForm) (states rows states' rows' : ℕ) (t u : Table) → IsAcceptedForm g normal → IsStanding normal → IsCompleteTable normal states rows t → IsCompleteTable normal states' rows' u → t ≡ u

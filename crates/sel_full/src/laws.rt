@@ -1,5 +1,5 @@
 //! Laws of complete tables. The functions do nothing: their contracts say them.
-ghost use Rattle.sel_full.specs.Builds.{CompleteIsNotTooLarge};
+ghost use Rattle.sel_full.specs.Builds.{CompleteIsNotTooLarge, CompleteIsOne};
 ghost use Rattle.sel_full.specs.FormLaws.{CompleteHasForm, TableFaultIsOne, LawfulHasNoFault};
 ghost use Rattle.sel_full.specs.Laws.{ReachedFollow, ReachIsExact, TablesAreClosed, TablesHoldTrees, KeysHavePlaces, UnusedAreEmpty, StateKeysFollow, TreesAreReady};
 
@@ -56,4 +56,9 @@ pub fn complete_has_form()
 pub fn table_faults_are_one()
     ensures one { TableFaultIsOne }
     ensures lawful { LawfulHasNoFault }
+{}
+
+/// A grammar has one complete table at most, whatever numbers of states and keys are allowed.
+pub fn complete_is_one()
+    ensures { CompleteIsOne }
 {}

@@ -9,3 +9,4 @@ pub mod Forming
 pub mod Heads
 pub mod Reading
 pub mod OneTable
+pub mod TextExamples

@@ -1,0 +1,4 @@
+use Rattle.sel_ahead.proofs.answers.answer_by_table.Given as goal
+
+abbrev pub ghosts-answer_over : goal.ghosts-answer_over
+ghosts-answer_over a = record { name = a.blank.name; parts = a.blank.parts }
