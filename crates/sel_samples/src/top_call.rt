@@ -21,7 +21,7 @@ const NO_MEMORY: u8 = 7;
 
 /// `run`, in a row without a line `call`; `read_words`, in one with `call words`; the trees that pass the gate of
 /// `run`, in one with `call gate`; `run` whose gate holds the first tree until N others have left, in one with
-/// `call held N`; and `run_program`, in one with `call program`, or with `call unread` where there is no memory for
+/// `call held N`; `run` whose line on the error stream can't be put, in one with `call mute`; and `run_program`, in one with `call program`, or with `call unread` where there is no memory for
 /// the words.
 pub struct TopCall;
 
@@ -60,6 +60,14 @@ struct Outside {
     err: MemorySink,
 }
 
+// The puts on the error stream that fail.
+fn failing_lines(call: &str) -> &'static [u64] {
+    match call {
+        "mute" => &[1],
+        _ => &[],
+    }
+}
+
 fn outside_of(alloc: Global, row: &Row<'_>) -> Result<Outside, NoMemory> {
     let mut shelf = MemoryShelf::new(alloc, row.reads.as_slice())?;
     for file in row.files.as_slice() {
@@ -69,7 +77,7 @@ fn outside_of(alloc: Global, row: &Row<'_>) -> Result<Outside, NoMemory> {
     Ok(Outside {
         shelf,
         out: MemorySink::new(alloc, piece, row.puts.as_slice())?,
-        err: MemorySink::new(alloc, ERR_PIECE, &[])?,
+        err: MemorySink::new(alloc, ERR_PIECE, failing_lines(row.call))?,
     })
 }
 
