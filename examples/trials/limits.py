@@ -177,12 +177,12 @@ def wrong(told):
 
 
 def costs_of(output):
-    """The costs by tree, of lines `; tree 1 cost 12`."""
+    """The costs by tree, of lines `; tree 1 cost 12`, or `; tree 1 least 12`."""
     found = {}
     for line in output.split(b'\n'):
         if line.startswith(b'; tree '):
             _, _, number, *rest = line.split()
-            found[int(number)] = int(rest[1]) if rest[0] == b'cost' else None
+            found[int(number)] = int(rest[1]) if rest[0] in (b'cost', b'least') else None
     return found
 
 
@@ -193,15 +193,15 @@ def put(folder, name, text):
     return path
 
 
-def judge(program, folder, path, grammar, name, trees, workers=('1', '4')):
-    """Each mode over the forest, by one worker and by four."""
+def judge(program, folder, path, grammar, name, trees, workers=('1', '4'), is_certified=True):
+    """Each mode over the forest, by so many workers. A million trees' certificates would be too long a text."""
     text = ''.join(line + '\n' for line in trees[0])
     forest = put(folder, name, text)
     code, output = run(program, folder, ['print', path, forest])
     if (code, output) != (0, text.encode()):
         wrong('the printed forest is another one')
     answers = {}
-    for mode in ('cover', 'select', 'summary'):
+    for mode in ('cover', 'select', 'regs', 'summary'):
         outputs = {run(program, folder, [mode, path, forest, '--workers', count]) for count in workers}
         if len(outputs) != 1 and mode != 'summary':
             wrong(f'{mode} answers otherwise by other workers')
@@ -209,8 +209,15 @@ def judge(program, folder, path, grammar, name, trees, workers=('1', '4')):
         if code != 0:
             wrong(f'{mode} ended with {code}')
     found = costs_of(answers['cover'])
-    if found != costs_of(answers['select']):
-        wrong('the costs of cover and select differ')
+    if found != costs_of(answers['select']) or found != costs_of(answers['regs']):
+        wrong('the costs of cover, select and regs differ')
+    if is_certified:
+        certificate = os.path.join(folder, f'{name}.certificate')
+        code, output = run(program, folder, ['certify', path, forest])
+        with open(certificate, 'wb') as out:
+            out.write(output)
+        if code != 0 or costs_of(run(program, folder, ['check', path, forest, certificate])[1]) != found:
+            wrong('the certificates prove other costs')
     if len(found) != len(trees[0]):
         wrong('a tree has no answer')
     for number, tree in trees[1]:
@@ -257,7 +264,7 @@ def main():
     every = (grammar.leaves, grammar.unary, grammar.binary)
     judge(program, folder, path, grammar, 'all-operators', many(draw, every, 10_000, 20))
     some = (grammar.leaves[:2], grammar.unary[:2], grammar.binary[:1])
-    judge(program, folder, path, grammar, 'many', many(draw, some, TREES, 1_000))
+    judge(program, folder, path, grammar, 'many', many(draw, some, TREES, 1_000), is_certified=False)
     for words in (['--trees', '1000000', '--size', '16'], ['--trees', '16000', '--size', '1000']):
         if run(program, folder, ['make', '@x86-64', *words])[0] != 0:
             wrong('make failed')
