@@ -1,14 +1,15 @@
--- What is written: an answer for each tree, in order, a summary of all, or a grammar or forest in print.
-use Rattle.std.specs.Prelude.{◌≡◌, ℕ, ◌+◌, ◌-◌, Bool, true, false, not, ◌==◌, Option, Some, None, List, [], ◌∷◌, ◌++◌, length, slice_get, count_by, codes, decimal, if◌then◌else◌}
+-- What is written: an answer for each tree, in order, a text with the names of registers, a certificate or a least cost for each, a summary of all, or a grammar or forest in print.
+use Rattle.std.specs.Prelude.{◌≡◌, ℕ, ◌+◌, ◌-◌, Bool, true, false, not, ◌==◌, Option, Some, None, is_some, List, [], ◌∷◌, ◌++◌, All, length, slice_get, count_by, codes, decimal, if◌then◌else◌}
 use Rattle.std.specs.Fmt.{signed_decimal}
 use Rattle.std.specs.List.{list_all, list_any}
 use Rattle.sel_grammar.specs.declared.grammar.Grammar.{Grammar}
 use Rattle.sel_grammar.specs.declared.grammar.Rule.{Rule}
 use Rattle.sel_grammar.specs.Costs.{Cost, no_cost, ◌⊕◌}
 use Rattle.sel_grammar.specs.PlainTrees.{PlainTree}
+use Rattle.sel_grammar.specs.Best.{HasNone}
 use Rattle.sel_forest.specs.declared.forest.Forest.{Forest}
 use Rattle.sel_forest.specs.declared.forest.Tree.{Tree}
-use Rattle.sel_forest.specs.Postorder.{IsPostorderOf}
+use Rattle.sel_forest.specs.Postorder.{IsPostorderOf, IsTree}
 use Rattle.sel_forest.specs.Printed.{IsPrinted}
 use Rattle.sel_grammar_print.specs.PrintedGrammar.{printed}
 use Rattle.sel_work.specs.declared.answer.Answer.{Answer}
@@ -17,11 +18,18 @@ use Rattle.sel_work.specs.declared.answer.Answer.TheVariants as answers
 use Rattle.sel_work.specs.declared.answer.Goal.{Goal}
 use Rattle.sel_work.specs.declared.answer.Goal.TheVariants as goals
 use Rattle.sel_work.specs.Answers.{IsTreeAnswer}
+use Rattle.sel_named.specs.declared.texts.NamedText.{NamedText}
+use Rattle.sel_named.specs.declared.texts.NamedText.TheVariants as texts
+use Rattle.sel_named.specs.NamedTexts.{IsBestNamed}
+use Rattle.sel_check.specs.Checks.{AreLeastCosts}
+use Rattle.sel_check.specs.CheckLaws.{IsCertifiedText}
 use Rattle.sel_gen.specs.Made.{IsMadeForest}
 use Rattle.sel_count.specs.Counts.{CountIs}
 use Rattle.sel_count.specs.Things.{IsTabledItems, IsTabledKey}
-use Rattle.sel_words.specs.Words.{Job, PrintGrammar, Make, OverForest}
+use Rattle.sel_words.specs.Words.{Job, PrintGrammar, Make, OverForest, Regs, Check}
 use Rattle.sel_words.specs.declared.words.Mode.TheVariants as mode
+use Rattle.sel_answers.specs.declared.named.NamedAnswer.{NamedAnswer}
+use Rattle.sel_answers.specs.declared.named.NamedAnswer.TheVariants as named
 
 -- the answer of the tree that the nodes spell
 abbrev pub IsTreesAnswer : Grammar → Goal → Tree → Answer → Type 0
@@ -151,7 +159,89 @@ pub record AreSummedUp (g : Grammar) (marks : TableMarks) (trees : List Tree) (c
   pub written : bytes ≡ summary_text (has_second_costs g) answers ++ table
   pub all_covered : list_all is_covered answers ≡ covered
 
--- The defined output of a job over a grammar and, for most, a forest that was read, with the marks of the table over which its trees were answered, and whether every tree is covered, and its text not too long.
+-- ---- registers
+
+-- that nothing derives the tree from the start symbol, or the cost of the best derivation, and what becomes of its text with the names of registers
+abbrev pub IsNamedAnswer : Grammar → List (List ℕ) → PlainTree → NamedAnswer → Type 0
+IsNamedAnswer g names t named.NoCover = HasNone g g.start t
+IsNamedAnswer g names t (named.Named c text) = IsBestNamed g t names c text
+
+-- so of the tree that the nodes spell
+abbrev pub IsTreesNamed : Grammar → List (List ℕ) → Tree → NamedAnswer → Type 0
+IsTreesNamed g names tree answer = (t : PlainTree) × IsPostorderOf tree t × IsNamedAnswer g names t answer
+
+-- so of each tree, in their order
+abbrev pub AreNamedAnswers : Grammar → List (List ℕ) → List Tree → List NamedAnswer → Type 0
+AreNamedAnswers g names [] [] = Unit {0}
+AreNamedAnswers g names (tree ∷ trees) (answer ∷ answers) = IsTreesNamed g names tree answer × AreNamedAnswers g names trees answers
+AreNamedAnswers g names _ _ = ⊥
+
+-- the cost and the text, or that it is too long, or how many registers it takes
+abbrev pub named_text : Bool → Cost → NamedText → List ℕ
+named_text second c (texts.Text text) = cost_line second c ++ (text ++ line_end_behind text)
+named_text second c texts.TooLong = codes " too long\n"
+named_text second c (texts.TooFew needs) = codes " needs " ++ (decimal needs ++ codes " registers\n")
+
+-- what is written behind the tree's number
+abbrev pub named_told_text : Bool → NamedAnswer → List ℕ
+named_told_text second named.NoCover = codes " no cover\n"
+named_told_text second (named.Named c text) = named_text second c text
+
+-- what is written of the tree of this number
+abbrev pub named_answer_text : Bool → ℕ → NamedAnswer → List ℕ
+named_answer_text second number answer = codes "; tree " ++ (decimal number ++ named_told_text second answer)
+
+-- of trees that are numbered from this number on
+abbrev pub named_answers_text : Bool → ℕ → List NamedAnswer → List ℕ
+named_answers_text second number [] = []
+named_answers_text second number (answer ∷ answers) = named_answer_text second number answer ++ named_answers_text second (number + 1) answers
+
+-- the text isn't too long, and there are enough registers
+abbrev pub is_text : NamedText → Bool
+is_text (texts.Text text) = true
+is_text texts.TooLong = false
+is_text (texts.TooFew needs) = false
+
+-- there is a text with the names of registers
+abbrev pub has_text : NamedAnswer → Bool
+has_text named.NoCover = false
+has_text (named.Named c text) = is_text text
+
+-- the bytes tell the texts of the trees with the names of registers, the trees being numbered behind so many others, and `covered` tells whether each has one
+pub record AreNamed (g : Grammar) (names : List (List ℕ)) (before : ℕ) (trees : List Tree) (covered : Bool) (bytes : List ℕ) : Type 0 where
+  pub answers : List NamedAnswer
+  pub answer_trees : AreNamedAnswers g names trees answers
+  pub written : bytes ≡ named_answers_text (has_second_costs g) (before + 1) answers
+  pub all_covered : list_all has_text answers ≡ covered
+
+-- ---- certificates
+
+-- the bytes are the certificates of the trees, which are numbered behind so many others, and `covered` tells whether each has a cover
+pub record AreCertifiedBehind (g : Grammar) (before : ℕ) (trees : List Tree) (covered : Bool) (bytes : List ℕ) : Type 0 where
+  pub are_trees : All IsTree trees
+  pub certified : IsCertifiedText g (before + 1) trees bytes covered
+
+-- the least cost of a tree's derivations from the start symbol, or that there is none
+abbrev pub least_text : Bool → Option Cost → List ℕ
+least_text second None = codes " no cover\n"
+least_text second (Some c) = codes " least " ++ (cost_text second c ++ codes "\n")
+
+-- of trees that are numbered from this number on
+abbrev pub least_costs_text : Bool → ℕ → List (Option Cost) → List ℕ
+least_costs_text second number [] = []
+least_costs_text second number (cost ∷ costs) = (codes "; tree " ++ (decimal number ++ least_text second cost)) ++ least_costs_text second (number + 1) costs
+
+-- the bytes tell the least costs of the trees, and `covered` tells whether each has one
+pub record AreLeast (g : Grammar) (trees : List Tree) (covered : Bool) (bytes : List ℕ) : Type 0 where
+  pub are_trees : All IsTree trees
+  pub costs : List (Option Cost)
+  pub least : AreLeastCosts g trees costs
+  pub written : bytes ≡ least_costs_text (has_second_costs g) 1 costs
+  pub all_covered : list_all (λ (cost : Option Cost). is_some cost) costs ≡ covered
+
+-- ---- the whole
+
+-- The defined output of a job over a grammar and, for most, a forest that was read, with the marks of the table over which its trees were answered, and whether every tree is covered, and its text, where one is written, neither too long nor short of registers. A text of certificates that is checked is no part of it: what it proves are the least costs.
 abbrev pub IsOutput : Job → Grammar → Option Forest → TableMarks → Bool → List ℕ → Type 0
 IsOutput PrintGrammar g None marks covered bytes = (bytes ≡ printed g) × (covered ≡ true)
 IsOutput (Make seed trees size) g None marks covered bytes = (forest : Forest) × IsMadeForest g seed trees size forest × AreSummedUp g marks forest.trees covered bytes
@@ -159,4 +249,7 @@ IsOutput (OverForest mode.Cover name) g (Some forest) marks covered bytes = AreA
 IsOutput (OverForest mode.Select name) g (Some forest) marks covered bytes = AreAnswered g goals.Text 0 forest.trees covered bytes
 IsOutput (OverForest mode.Summary name) g (Some forest) marks covered bytes = AreSummedUp g marks forest.trees covered bytes
 IsOutput (OverForest mode.Print name) g (Some forest) marks covered bytes = IsPrinted g forest bytes × (covered ≡ true)
+IsOutput (OverForest mode.Certify name) g (Some forest) marks covered bytes = AreCertifiedBehind g 0 forest.trees covered bytes
+IsOutput (Regs names name) g (Some forest) marks covered bytes = AreNamed g names 0 forest.trees covered bytes
+IsOutput (Check name certificate) g (Some forest) marks covered bytes = AreLeast g forest.trees covered bytes
 IsOutput _ _ _ _ _ _ = ⊥

@@ -23,7 +23,8 @@ pub fn put_cost(text: &mut Vec<u8>, second: bool, units: u128, ties: i128) -> Re
     Ok(())
 }
 
-fn put_cost_line(text: &mut Vec<u8>, second: bool, cost: Pair) -> Result<(), NoMemory>
+/// Puts a cost, up to the end of its line.
+pub fn put_cost_line(text: &mut Vec<u8>, second: bool, cost: Pair) -> Result<(), NoMemory>
     ensures { OnOk result (text.new.items ≡ text.old.items ++ cost_line second cost) }
 {
     put(text, b" cost ")?;
@@ -62,8 +63,8 @@ fn put_rules(text: &mut Vec<u8>, rules: &[u16]) -> Result<(), NoMemory>
     Ok(())
 }
 
-// The text of a tree, up to the end of its last line.
-fn put_lines(text: &mut Vec<u8>, lines: &[u8]) -> Result<(), NoMemory>
+/// The text of a tree, up to the end of its last line.
+pub fn put_lines(text: &mut Vec<u8>, lines: &[u8]) -> Result<(), NoMemory>
     ensures { OnOk result (text.new.items ≡ text.old.items ++ (lines.now ++ line_end_behind lines.now)) }
 {
     put(text, lines)?;

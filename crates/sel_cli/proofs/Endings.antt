@@ -7,12 +7,13 @@ use Rattle.sel_grammar.specs.declared.refusal.GrammarRefusal.{GrammarRefusal}
 use Rattle.sel_grammar.specs.declared.refusal.GrammarRefusal.TheVariants as refusal
 use Rattle.sel_grammar_text.specs.GrammarText.{SpellsGrammar}
 use Rattle.sel_normal.specs.NormalFaults.{NormalRefusedFor}
-use Rattle.sel_words.specs.Words.{GrammarSource, Held, Shipped, held_under, Task, grammar_name, forest_name}
-use Rattle.sel_cli.specs.Texts.{MayBe, IsGrammarText, AcceptsGrammar, grammar_limit, forest_limit, request_of}
+use Rattle.sel_forest.specs.declared.forest.Forest.{Forest}
+use Rattle.sel_words.specs.Words.{GrammarSource, Held, Shipped, held_under, Task, grammar_name, forest_name, certificate_name}
+use Rattle.sel_cli.specs.Texts.{MayBe, IsGrammarText, AcceptsGrammar, AcceptsForest, grammar_limit, forest_limit, certificate_limit, request_of}
 use Rattle.sel_cli.specs.Ends.{StopsFor}
 use Rattle.sel_cli.specs.Parts.{FetchesFor, ReadsText, JudgedFor}
 use Rattle.sel_cli.specs.declared.status.Status.{Status}
-use Rattle.sel_cli.specs.declared.status.Status.TheVariants.{Done, Usage, ReadFault, TooBig, BadGrammar, BadForest, WriteFault, NoMemory, Uncovered}
+use Rattle.sel_cli.specs.declared.status.Status.TheVariants.{Done, Usage, ReadFault, TooBig, BadGrammar, BadForest, WriteFault, NoMemory, Uncovered, BadCertificate}
 
 -- where a shelf doesn't tell its text, some text may be longer than any limit
 pub longer_text : (told : Option (List ℕ)) (limit : ℕ) → IfSome told (λ held. limit < length held) → (text : List ℕ) × MayBe told text × (limit < length text)
@@ -48,6 +49,7 @@ module _ (task : Task) (before now : ShelfTold) where
   fetch_grammar_stops (BadForest fault) h f = absurd f
   fetch_grammar_stops WriteFault h f = absurd f
   fetch_grammar_stops Uncovered h f = absurd f
+  fetch_grammar_stops (BadCertificate fault) h f = absurd f
 
   -- and where it is a call's answer
   pub held_stops : {A : Type 0} (r : Result A Status) → task.source ≡ Held → IfErr r (FetchesFor task.grammar grammar_limit before now) → IfErr r (StopsFor (request_of (Some task) before) before now task.grammar)
@@ -60,10 +62,10 @@ module _ (task : Task) (before now : ShelfTold) where
   -- the forest's text was not read
   pub fetch_forest_stops : (grammar : Grammar) (name : List ℕ) (status : Status) → AcceptsGrammar MayBe (request_of (Some task) before) task grammar → forest_name task.job ≡ Some name
       → FetchesFor name forest_limit before now status → StopsFor (request_of (Some task) before) before now name status
-  fetch_forest_stops grammar name ReadFault a n f = record { is_wanted = (task, refl, inr (grammar, a, n)); rose = f.0; last_name = f.1; last_failed = f.2 }
+  fetch_forest_stops grammar name ReadFault a n f = record { is_wanted = (task, refl, inr (inl (grammar, a, n))); rose = f.0; last_name = f.1; last_failed = f.2 }
   fetch_forest_stops grammar name TooBig a n f =
       let long = longer_text (before.held name) forest_limit f.0 in
-      record { limit = forest_limit; too_long = inr (task, grammar, long.0, record { accepts_grammar = a; is_named = n; is_text = long.1 }, refl, long.2); last_name = f.1; last_count = f.2 }
+      record { limit = forest_limit; too_long = inr (inl (task, grammar, long.0, record { accepts_grammar = a; is_named = n; is_text = long.1 }, refl, long.2)); last_name = f.1; last_count = f.2 }
   fetch_forest_stops grammar name NoMemory a n f = tt
   fetch_forest_stops grammar name Done a n f = absurd f
   fetch_forest_stops grammar name Usage a n f = absurd f
@@ -71,6 +73,28 @@ module _ (task : Task) (before now : ShelfTold) where
   fetch_forest_stops grammar name (BadForest fault) a n f = absurd f
   fetch_forest_stops grammar name WriteFault a n f = absurd f
   fetch_forest_stops grammar name Uncovered a n f = absurd f
+  fetch_forest_stops grammar name (BadCertificate fault) a n f = absurd f
+
+  -- the text of certificates was not read
+  pub fetch_certificate_stops : (grammar : Grammar) (forest : Forest) (name : List ℕ) (status : Status) → AcceptsForest MayBe (request_of (Some task) before) task grammar forest → certificate_name task.job ≡ Some name
+      → FetchesFor name certificate_limit before now status → StopsFor (request_of (Some task) before) before now name status
+  fetch_certificate_stops grammar forest name ReadFault a n f = record { is_wanted = (task, refl, inr (inr (grammar, forest, a, n))); rose = f.0; last_name = f.1; last_failed = f.2 }
+  fetch_certificate_stops grammar forest name TooBig a n f =
+      let long = longer_text (before.held name) certificate_limit f.0 in
+      record {
+        limit = certificate_limit;
+        too_long = inr (inr (task, grammar, forest, long.0, record { accepts_forest = a; is_named = n; is_text = long.1 }, refl, long.2));
+        last_name = f.1;
+        last_count = f.2;
+      }
+  fetch_certificate_stops grammar forest name NoMemory a n f = tt
+  fetch_certificate_stops grammar forest name Done a n f = absurd f
+  fetch_certificate_stops grammar forest name Usage a n f = absurd f
+  fetch_certificate_stops grammar forest name (BadGrammar fault) a n f = absurd f
+  fetch_certificate_stops grammar forest name (BadForest fault) a n f = absurd f
+  fetch_certificate_stops grammar forest name WriteFault a n f = absurd f
+  fetch_certificate_stops grammar forest name Uncovered a n f = absurd f
+  fetch_certificate_stops grammar forest name (BadCertificate fault) a n f = absurd f
 
 -- a grammar whose normal form is refused is refused
 pub normal_judged : (text : List ℕ) (grammar : Grammar) (why : GrammarRefusal) → SpellsGrammar text grammar → NormalRefusedFor grammar why → JudgedFor text why

@@ -1,4 +1,6 @@
 pub mod Batches
+pub mod Tellings
+pub mod Certifying
 pub mod Endings
 pub mod Going
 pub mod Writing

@@ -20,7 +20,7 @@ use Rattle.sel_cli.specs.Parts.{Writes, IsThis, SumsUpJob, DoesJob}
 use Rattle.sel_cli.specs.Reporting.{TellsOf, room_for, nothing_reported}
 use Rattle.sel_cli.specs.declared.jobs.reported.Reported.{Reported}
 use Rattle.sel_cli.specs.declared.status.Status.{Status}
-use Rattle.sel_cli.specs.declared.status.Status.TheVariants.{Done, Usage, ReadFault, TooBig, BadGrammar, BadForest, WriteFault, NoMemory, Uncovered}
+use Rattle.sel_cli.specs.declared.status.Status.TheVariants.{Done, Usage, ReadFault, TooBig, BadGrammar, BadForest, WriteFault, NoMemory, Uncovered, BadCertificate}
 use Rattle.sel_cli.proofs.Batches.{more_and_more, none_more}
 use Rattle.sel_cli.proofs.Writing.{nothing_taken, output_kept, this_written}
 use Rattle.std.proofs.lemmas.List.Elements.{Contains-append_cases}
@@ -204,6 +204,7 @@ made_some g seed count size trees marks out now bytes ReadFault made w = absurd 
 made_some g seed count size trees marks out now bytes TooBig made w = absurd w
 made_some g seed count size trees marks out now bytes (BadGrammar fault) made w = absurd w
 made_some g seed count size trees marks out now bytes (BadForest fault) made w = absurd w
+made_some g seed count size trees marks out now bytes (BadCertificate fault) made w = absurd w
 
 pub made_does : (g : Grammar) (settings : Settings) (seed count size : ℕ) (trees : List Tree) (out now : SinkTold) (status : Status) (report : Report) → IsMadeForest g seed count size (record { trees = trees })
     → SumsUpJob settings g trees out now status report → DoesJob settings (Make seed count size) g None out now status report

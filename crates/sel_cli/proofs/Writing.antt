@@ -13,7 +13,7 @@ use Rattle.sel_cli.specs.Lines.{status_line}
 use Rattle.sel_cli.specs.Runs.{KeepsOutput}
 use Rattle.sel_cli.specs.Parts.{Writes, Stops, EndsBatch, IsThis, StopsOver, WritesOver}
 use Rattle.sel_cli.specs.declared.status.Status.{Status}
-use Rattle.sel_cli.specs.declared.status.Status.TheVariants.{Done, Usage, ReadFault, TooBig, BadGrammar, BadForest, WriteFault, NoMemory, Uncovered}
+use Rattle.sel_cli.specs.declared.status.Status.TheVariants.{Done, Usage, ReadFault, TooBig, BadGrammar, BadForest, WriteFault, NoMemory, Uncovered, BadCertificate}
 
 pub take_front : (n : ℕ) (whole : List ℕ) → IsFrontOf (take n whole) whole
 take_front n whole = (drop n whole, sym (take-append-drop n whole))
@@ -45,6 +45,7 @@ module _ (Is : Bool → List ℕ → Type 0) (covered : Bool) (whole : List ℕ)
   some_written before now bytes TooBig h = absurd h
   some_written before now bytes (BadGrammar fault) h = absurd h
   some_written before now bytes (BadForest fault) h = absurd h
+  some_written before now bytes (BadCertificate fault) h = absurd h
 
   -- what was written is an output that is so
   pub this_written : (before now : SinkTold) (status : Status) → Writes (IsThis covered whole) before now status → Writes Is before now status

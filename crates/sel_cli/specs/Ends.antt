@@ -6,20 +6,21 @@ use Rattle.sel_base.specs.Puts.{SinkTold}
 use Rattle.sel_base.specs.Reads.{LastRead, ShelfTold}
 use Rattle.sel_grammar.specs.declared.grammar.Grammar.{Grammar}
 use Rattle.sel_forest.specs.declared.forest.Forest.{Forest}
-use Rattle.sel_words.specs.Words.{Job, Task, grammar_name, forest_name, last_name}
+use Rattle.sel_words.specs.Words.{Job, Task, grammar_name, forest_name, certificate_name, last_name}
 use Rattle.sel_crew.specs.declared.report.Report.{Report}
 use Rattle.sel_answers.specs.Output.{IsOutput, TableMarks}
 use Rattle.sel_answers.specs.Reported.{marks_of}
 use Rattle.sel_cli.specs.Reporting.{ReportsFor, nothing_reported}
-use Rattle.sel_cli.specs.Texts.{Request, IsTold, MayBe, AcceptsGrammar, Accepts, IsTooLong, RefusesGrammar, RefusesForest, IsWhole}
+use Rattle.sel_cli.specs.Texts.{Request, IsTold, MayBe, AcceptsGrammar, AcceptsForest, Accepts, IsTooLong, RefusesGrammar, RefusesForest, RefusesCertificate, IsWhole}
 use Rattle.sel_cli.specs.Lines.{status_line}
 use Rattle.sel_cli.specs.declared.status.Status.{Status}
-use Rattle.sel_cli.specs.declared.status.Status.TheVariants.{Done, Usage, ReadFault, TooBig, BadGrammar, BadForest, WriteFault, NoMemory, Uncovered}
+use Rattle.sel_cli.specs.declared.status.Status.TheVariants.{Done, Usage, ReadFault, TooBig, BadGrammar, BadForest, WriteFault, NoMemory, Uncovered, BadCertificate}
 
--- the text of this name is the next to be read: the grammar's, unless it is shipped, or the forest's behind an accepted grammar
+-- the text of this name is the next to be read: the grammar's, unless it is shipped, the forest's behind an accepted grammar, or that of certificates behind an accepted forest
 abbrev pub IsWanted : Request → List ℕ → Type 0
 IsWanted request name = (task : Task) × (request.wanted ≡ Some task)
-    × ((grammar_name task ≡ Some name) ⊎ ((grammar : Grammar) × AcceptsGrammar MayBe request task grammar × (forest_name task.job ≡ Some name)))
+    × ((grammar_name task ≡ Some name) ⊎ ((grammar : Grammar) × AcceptsGrammar MayBe request task grammar × (forest_name task.job ≡ Some name))
+        ⊎ ((grammar : Grammar) × (forest : Forest) × AcceptsForest MayBe request task grammar forest × (certificate_name task.job ≡ Some name)))
 
 -- the count of faults rose, and the last read was of this text and failed
 pub record IsUnread (request : Request) (before now : ShelfTold) (name : List ℕ) : Type 0 where
@@ -42,6 +43,7 @@ StopsFor request before now name ReadFault = IsUnread request before now name
 StopsFor request before now name TooBig = IsTooBig request now.last name
 StopsFor request before now name (BadGrammar fault) = RefusesGrammar MayBe request name fault
 StopsFor request before now name (BadForest fault) = RefusesForest MayBe request name fault
+StopsFor request before now name (BadCertificate fault) = RefusesCertificate MayBe request name fault
 StopsFor request before now name NoMemory = Unit {0}
 StopsFor request before now name _ = ⊥
 
@@ -94,6 +96,7 @@ Decides request Usage = request.wanted ≡ None
 Decides request TooBig = (name : List ℕ) × (limit : ℕ) × IsTooLong IsTold request name limit
 Decides request (BadGrammar fault) = (name : List ℕ) × RefusesGrammar IsTold request name fault
 Decides request (BadForest fault) = (name : List ℕ) × RefusesForest IsTold request name fault
+Decides request (BadCertificate fault) = (name : List ℕ) × RefusesCertificate IsTold request name fault
 Decides request Done = (marks : TableMarks) × (bytes : List ℕ) × IsWhole IsTold request marks true bytes
 Decides request Uncovered = (marks : TableMarks) × (bytes : List ℕ) × IsWhole IsTold request marks false bytes
 Decides request _ = ⊥
@@ -131,11 +134,16 @@ IsComplete request marks shelf shelf_now out out_now status = (task : Task) (gra
 abbrev pub WasRead : LastRead → List ℕ → Type 0
 WasRead last name = (last.name ≡ name) × (last.failed ≡ false)
 
--- what was read last: the grammar's text where it is refused, the forest's where that is, and the last of the task's where it is done; nothing is
--- said where no such text is read
+-- the name of the forest's text of a task, where it has one
+abbrev pub forest_name_of : Task → Option (List ℕ)
+forest_name_of task = forest_name task.job
+
+-- what was read last: the grammar's text where it is refused, the forest's where that is, and the last of the task's where it is done, or that of
+-- certificates is refused; nothing is said where no such text is read
 abbrev pub ReadsFor : Option Task → LastRead → Status → Type 0
 ReadsFor wanted last (BadGrammar fault) = IfSome (option_and_then grammar_name wanted) (WasRead last)
-ReadsFor wanted last (BadForest fault) = IfSome (option_and_then last_name wanted) (WasRead last)
+ReadsFor wanted last (BadForest fault) = IfSome (option_and_then forest_name_of wanted) (WasRead last)
+ReadsFor wanted last (BadCertificate fault) = IfSome (option_and_then last_name wanted) (WasRead last)
 ReadsFor wanted last Done = IfSome (option_and_then last_name wanted) (WasRead last)
 ReadsFor wanted last Uncovered = IfSome (option_and_then last_name wanted) (WasRead last)
 ReadsFor wanted last WriteFault = IfSome (option_and_then last_name wanted) (WasRead last)

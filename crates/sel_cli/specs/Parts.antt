@@ -1,5 +1,5 @@
 -- How the parts of the top call end. Of a shelf and of a sink stands first what was told before the part, and then what is told after it.
-use Rattle.std.specs.Prelude.{◌≡◌, ◌≢◌, ℕ, ◌<◌, ◌≤◌, ◌⊎◌, Bool, true, false, List, [], length, Option, Some, IfSome, Result, Ok, Err, IfErr, IsErrOf, OnOk}
+use Rattle.std.specs.Prelude.{◌≡◌, ◌≢◌, ℕ, ◌<◌, ◌≤◌, ◌^◌, ◌⊎◌, map, Bool, true, false, List, [], length, Option, Some, IfSome, Result, Ok, Err, IfErr, IsErrOf, OnOk}
 use Rattle.std.specs.Io.KnownBytes.{append_known}
 use Rattle.sel_base.specs.Causes.{Rose}
 use Rattle.sel_base.specs.Puts.{SinkTold}
@@ -11,18 +11,23 @@ use Rattle.sel_forest.specs.declared.forest.Forest.{Forest}
 use Rattle.sel_forest.specs.declared.forest.Tree.{Tree}
 use Rattle.sel_forest.specs.ForestText.{SpellsForest, IsForestFault}
 use Rattle.sel_forest.specs.Printed.{IsPrinted}
+use Rattle.sel_grammar.specs.Costs.{Cost}
+use Rattle.sel_check.specs.Checks.{ProvesCosts, IsCheckFault}
 use Rattle.sel_work.specs.declared.answer.Goal.{Goal}
+use Rattle.sel_work.specs.declared.answer.Goal.TheVariants as goals
 use Rattle.sel_words.specs.Words.{Job, Task}
 use Rattle.sel_cli.specs.Texts.{IsRefusedGrammar, request_of}
 use Rattle.sel_crew.specs.declared.report.Report.{Report}
 use Rattle.sel_words.specs.declared.settings.Settings.{Settings}
-use Rattle.sel_answers.specs.Output.{IsOutput, AreAnswered, AreSummedUp}
+use Rattle.sel_answers.specs.Output.{IsOutput, AreAnswered, AreNamed, AreCertifiedBehind, AreLeast, AreSummedUp}
 use Rattle.sel_answers.specs.Reported.{marks_of}
 use Rattle.sel_cli.specs.Ends.{WritesSome, finished, EndsFor, WasRead, ReadsFor}
 use Rattle.sel_cli.specs.Reporting.{TellsOf, IsUnfinished, ReportsFor, nothing_reported}
 use Rattle.sel_cli.specs.Runs.{KeepsShelf, KeepsOutput}
+use Rattle.sel_cli.specs.declared.jobs.each_tree.Telling.{Telling}
+use Rattle.sel_cli.specs.declared.jobs.each_tree.Telling.TheVariants as tells
 use Rattle.sel_cli.specs.declared.status.Status.{Status}
-use Rattle.sel_cli.specs.declared.status.Status.TheVariants.{Done, ReadFault, TooBig, BadForest, WriteFault, NoMemory, Uncovered}
+use Rattle.sel_cli.specs.declared.status.Status.TheVariants.{Done, ReadFault, TooBig, BadForest, WriteFault, NoMemory, Uncovered, BadCertificate}
 
 -- ---- texts
 
@@ -53,6 +58,12 @@ StopsOver grammar text (BadForest fault) = IsForestFault grammar text fault
 StopsOver grammar text NoMemory = Unit {0}
 StopsOver grammar text _ = ⊥
 
+-- why the certificates prove no costs
+abbrev pub StopsCheck : Grammar → Forest → List ℕ → Status → Type 0
+StopsCheck grammar forest text (BadCertificate fault) = IsCheckFault grammar forest text fault
+StopsCheck grammar forest text NoMemory = Unit {0}
+StopsCheck grammar forest text _ = ⊥
+
 -- ---- outputs
 
 -- An output that is so was written, at once or piece by piece, and the writing ended with this status.
@@ -77,6 +88,25 @@ EndsBatch Is before now (Err status) = Stops Is before now status
 abbrev pub IsThis : Bool → List ℕ → Bool → List ℕ → Type 0
 IsThis whole_covered whole covered bytes = (covered ≡ whole_covered) × (bytes ≡ whole)
 
+-- what is asked of each tree for what is told of it
+abbrev pub goal_of : Telling → Goal
+goal_of (tells.Answer goal) = goal
+goal_of (tells.Named names) = goals.Cover
+
+-- there are names, and not too many, where there are any to tell
+abbrev pub HasNames : Telling → Type 0
+HasNames (tells.Answer goal) = Unit {0}
+HasNames (tells.Named names) = (1 ≤ length names.now) × (length names.now < 2 ^ 32)
+
+-- what is told of trees that are numbered behind so many others: their answers, or their texts with the names of registers
+abbrev pub AreTold : Grammar → Telling → ℕ → List Tree → Bool → List ℕ → Type 0
+AreTold grammar (tells.Answer goal) before trees covered bytes = AreAnswered grammar goal before trees covered bytes
+AreTold grammar (tells.Named names) before trees covered bytes = AreNamed grammar (map (λ name. name.now) names.now) before trees covered bytes
+
+-- the output is the certificates of the forest's trees
+abbrev pub IsCertifiedForest : Grammar → Forest → Bool → List ℕ → Type 0
+IsCertifiedForest grammar forest covered bytes = AreCertifiedBehind grammar 0 forest.trees covered bytes
+
 -- the output is the forest in print
 abbrev pub IsForestInPrint : Grammar → Forest → Bool → List ℕ → Type 0
 IsForestInPrint grammar forest covered bytes = IsPrinted grammar forest bytes × (covered ≡ true)
@@ -97,16 +127,22 @@ DoesJobOver settings job grammar text before now status report =
     (StopsOver grammar text status × (now ≡ before) × (report ≡ nothing_reported))
     ⊎ ((forest : Forest) × SpellsForest grammar text forest × DoesJob settings job grammar (Some forest) before now status report)
 
--- The answers of the trees were written so far, and this is reported.
-pub record AnswersJob (settings : Settings) (grammar : Grammar) (goal : Goal) (trees : List Tree) (before now : SinkTold) (status : Status) (report : Report) : Type 0 where
-  pub writes : Writes (AreAnswered grammar goal 0 trees) before now status
+-- What is told of each of the trees was written so far, and this is reported.
+pub record TellsJob (settings : Settings) (grammar : Grammar) (telling : Telling) (trees : List Tree) (before now : SinkTold) (status : Status) (report : Report) : Type 0 where
+  pub writes : Writes (AreTold grammar telling 0 trees) before now status
   pub reports : ((report ≡ nothing_reported) × IsUnfinished status) ⊎ TellsOf settings grammar trees report
 
--- The text spells no forest, and nothing was done, or it spells one, and its answers were written so far.
-abbrev pub AnswersOver : Settings → Grammar → Goal → List ℕ → SinkTold → SinkTold → Status → Report → Type 0
-AnswersOver settings grammar goal text before now status report =
+-- The text spells no forest, and nothing was done, or it spells one, and what is told of its trees was written so far.
+abbrev pub TellsOver : Settings → Grammar → Telling → List ℕ → SinkTold → SinkTold → Status → Report → Type 0
+TellsOver settings grammar telling text before now status report =
     (StopsOver grammar text status × (now ≡ before) × (report ≡ nothing_reported))
-    ⊎ ((forest : Forest) × SpellsForest grammar text forest × AnswersJob settings grammar goal forest.trees before now status report)
+    ⊎ ((forest : Forest) × SpellsForest grammar text forest × TellsJob settings grammar telling forest.trees before now status report)
+
+-- The text of certificates has a fault, and nothing was written, or it proves costs, and the least costs of the forest's trees were written.
+abbrev pub ChecksOver : Grammar → Forest → List ℕ → SinkTold → SinkTold → Status → Type 0
+ChecksOver grammar forest text before now status =
+    (StopsCheck grammar forest text status × (now ≡ before))
+    ⊎ ((costs : List (Option Cost)) × ProvesCosts grammar forest text costs × Writes (AreLeast grammar forest.trees) before now status)
 
 -- The text spells no forest, and nothing was written, or it spells one, and an output that is so over it was written.
 abbrev pub WritesOver : (Forest → Bool → List ℕ → Type 0) → Grammar → List ℕ → SinkTold → SinkTold → Status → Type 0

@@ -11,7 +11,7 @@ use Rattle.sel_closing.specs.SnapshotTables.{Room, table_of}
 use Rattle.sel_gen.specs.Made.{IsMadeForest}
 use Rattle.sel_crew.specs.declared.report.Report.{Report}
 use Rattle.sel_crew.specs.Reports.{TellsPlainNodes}
-use Rattle.sel_words.specs.Words.{Job, PrintGrammar, Make, OverForest}
+use Rattle.sel_words.specs.Words.{Job, PrintGrammar, Make, OverForest, Regs, Check}
 use Rattle.sel_words.specs.declared.settings.Settings.{Settings}
 use Rattle.sel_words.specs.declared.words.Mode.TheVariants as mode
 use Rattle.sel_cli.specs.declared.status.Status.{Status}
@@ -49,4 +49,7 @@ ReportsFor settings (OverForest mode.Cover name) g (Some forest) report bytes st
 ReportsFor settings (OverForest mode.Select name) g (Some forest) report bytes status = ((report ≡ nothing_reported) × IsUnfinished status) ⊎ TellsOf settings g forest.trees report
 ReportsFor settings (OverForest mode.Summary name) g (Some forest) report bytes status = ((report ≡ nothing_reported) × (bytes ≡ [])) ⊎ TellsOf settings g forest.trees report
 ReportsFor settings (OverForest mode.Print name) g (Some forest) report bytes status = report ≡ nothing_reported
+ReportsFor settings (OverForest mode.Certify name) g (Some forest) report bytes status = report ≡ nothing_reported
+ReportsFor settings (Regs names name) g (Some forest) report bytes status = ((report ≡ nothing_reported) × IsUnfinished status) ⊎ TellsOf settings g forest.trees report
+ReportsFor settings (Check name certificate) g (Some forest) report bytes status = report ≡ nothing_reported
 ReportsFor settings _ _ _ _ _ _ = ⊥

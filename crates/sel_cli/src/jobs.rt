@@ -2,23 +2,29 @@
 ghost use Rattle.std.specs.Prelude.{◌≡◌, Some};
 ghost use Rattle.sel_words.specs.Settings.{AreWithinBounds};
 ghost use Rattle.sel_words.specs.Names.{task_for, source_for, IsShort};
+ghost use Rattle.sel_words.specs.Words.{HasRegisters};
 ghost use Rattle.sel_cli.specs.Ends.{NeedsNoText};
 ghost use Rattle.sel_cli.specs.Parts.{Serves};
 ghost use Rattle.sel_cli.specs.Reporting.{nothing_reported};
 
+mod certify;
+mod check;
 mod crew;
 mod each_tree;
 mod make;
 mod over_forest;
 mod print_forest;
 mod print_grammar;
+mod registers;
 mod reported;
 mod summary;
 mod writing;
 
+use crate::jobs::check::serve_check;
 use crate::jobs::make::make;
 use crate::jobs::over_forest::serve_forest;
 use crate::jobs::print_grammar::print_grammar;
+use crate::jobs::registers::serve_registers;
 use crate::jobs::reported::Reported;
 use crate::status::Status;
 use crate::texts::accept_grammar;
@@ -74,6 +80,7 @@ pub fn serve<'a, Rt: Threads + Sync, S: Shelf, K: Sink, G: Gate>(
 ) -> Ended<'a>
     requires settings { AreWithinBounds command.settings }
     requires short { IsShort (source_for command.source) }
+    requires registers { HasRegisters (task_for command).job }
     ensures served { Serves (Some (task_for command.entry)) (S.told shelf.old) (S.told shelf.new) (K.told out.old) (K.told out.new) result.name.now result.status result.report }
     ensures untouched { NeedsNoText (Some (task_for command.entry)) → shelf.new ≡ shelf.old }
 {
@@ -87,6 +94,12 @@ pub fn serve<'a, Rt: Threads + Sync, S: Shelf, K: Sink, G: Gate>(
         Job::Make => make(rt, alloc, &accepted, command.settings, out, gate).of(name),
         Job::OverForest(mode, name) => {
             serve_forest(rt, alloc, command, mode, name, &accepted, shelf, out, gate)
+        }
+        Job::Regs(name, registers) => serve_registers(
+            rt, alloc, command, name, registers, &accepted, shelf, out, gate,
+        ),
+        Job::Check(name, certificate) => {
+            serve_check(alloc, command, name, certificate, &accepted, shelf, out)
         }
     }
 }

@@ -1,11 +1,12 @@
 // The line that tells a status.
 ghost use Rattle.std.specs.Prelude.{◌≡◌, ◌≤◌, ◌++◌, codes, OnOk};
 ghost use Rattle.sel_cli.specs.Ends.{TellsLine};
-ghost use Rattle.sel_cli.specs.Lines.{status_line, grammar_fault_line, forest_fault_line, place_text, kind_text, grammar_kind_name, forest_kind_name};
+ghost use Rattle.sel_cli.specs.Lines.{status_line, grammar_fault_line, forest_fault_line, certificate_fault_line, place_text, line_text, kind_text, grammar_kind_name, forest_kind_name, certificate_kind_name};
 
 use crate::status::Status;
 use sel_base::text::{put, put_number};
 use sel_base::{NoMemory, Sink, write_all_of};
+use sel_check::{CheckFault, kinds as certificate_kinds};
 use sel_forest::{ForestFault, limits as forest_limits};
 use sel_grammar::{GrammarFault, limits as grammar_limits};
 use std::alloc::Global;
@@ -68,6 +69,22 @@ fn forest_kind_name(kind: u8) -> &'static [u8]
     }
 }
 
+fn certificate_kind_name(kind: u8) -> &'static [u8]
+    ensures { result.now ≡ certificate_kind_name kind }
+{
+    if kind == certificate_kinds::TEXT {
+        b"Text"
+    } else if kind == certificate_kinds::BOUND {
+        b"Bound"
+    } else if kind == certificate_kinds::COVER {
+        b"Cover"
+    } else if kind == certificate_kinds::COST {
+        b"Cost"
+    } else {
+        b"Unknown"
+    }
+}
+
 fn put_place(text: &mut Vec<u8>, line: u32, column: u32) -> Result<(), NoMemory>
     ensures { OnOk result (text.new.items ≡ text.old.items ++ place_text line column) }
 {
@@ -75,6 +92,14 @@ fn put_place(text: &mut Vec<u8>, line: u32, column: u32) -> Result<(), NoMemory>
     put_number(text, line as u64)?;
     put(text, b":")?;
     put_number(text, column as u64)?;
+    Ok(())
+}
+
+fn put_line_number(text: &mut Vec<u8>, line: u32) -> Result<(), NoMemory>
+    ensures { OnOk result (text.new.items ≡ text.old.items ++ line_text line) }
+{
+    put(text, b":")?;
+    put_number(text, line as u64)?;
     Ok(())
 }
 
@@ -105,6 +130,20 @@ fn put_forest_fault(text: &mut Vec<u8>, name: &[u8], fault: ForestFault) -> Resu
     put_place(text, fault.line, fault.column)?;
     put(text, b": forest fault ")?;
     put_kind(text, fault.kind, forest_kind_name(fault.kind))?;
+    Ok(())
+}
+
+fn put_certificate_fault(
+    text: &mut Vec<u8>,
+    name: &[u8],
+    fault: CheckFault,
+) -> Result<(), NoMemory>
+    ensures { OnOk result (text.new.items ≡ text.old.items ++ certificate_fault_line name.now fault) }
+{
+    put(text, name)?;
+    put_line_number(text, fault.line)?;
+    put(text, b": certificate fault ")?;
+    put_kind(text, fault.kind, certificate_kind_name(fault.kind))?;
     Ok(())
 }
 
@@ -140,6 +179,10 @@ fn put_line(text: &mut Vec<u8>, name: &[u8], status: Status) -> Result<(), NoMem
         }
         Status::BadForest(fault) => {
             put_forest_fault(text, name, fault)?;
+            Ok(())
+        }
+        Status::BadCertificate(fault) => {
+            put_certificate_fault(text, name, fault)?;
             Ok(())
         }
         Status::WriteFault => {

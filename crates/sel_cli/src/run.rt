@@ -35,11 +35,12 @@ fn obey<'a, Rt: Threads + Sync, S: Shelf, K: Sink, G: Gate>(
     }
 }
 
-/// Does what the words ask for (`cover`, `select`, `print` or `summary` with GRAMMAR and FOREST, `print GRAMMAR`
-/// or `make GRAMMAR`, and options in any place, without the program's name): reads the texts from the shelf, but
-/// for a shipped grammar's, or makes the forest, writes the cheapest cover of each tree, the text that it expands
-/// to, a summary of the covers, or the grammar or the forest in print, to `out`, and says how it ended. The
-/// status's line goes to `err`. So many workers answer the trees as the options say, batch by batch, over one table of
+/// Does what the words ask for (`cover`, `select`, `regs`, `print`, `summary` or `certify` with GRAMMAR and FOREST,
+/// `check` with GRAMMAR, FOREST and CERTIFICATE, `print GRAMMAR` or `make GRAMMAR`, and options in any place, without
+/// the program's name): reads the texts from the shelf, but for a shipped grammar's, or makes the forest, writes the
+/// cheapest cover of each tree, the text that it expands to, with or without registers, a summary of the covers, the
+/// certificate of each, what certificates prove, or the grammar or the forest in print, to `out`, and says how it
+/// ended. The status's line goes to `err`. So many workers answer the trees as the options say, batch by batch, over one table of
 /// states and transitions; the gate is passed round each tree. The report is of that table.
 pub fn run<S: Shelf, K: Sink, E: Sink, G: Gate, Rt: Threads + Sync>(
     rt: &Rt,

@@ -3,6 +3,7 @@ ghost use Rattle.std.specs.Prelude.{◌≡◌};
 ghost use Rattle.sel_cli.specs.Code.{code_of};
 ghost use Rattle.sel_cli.specs.Ends.{finished};
 
+use sel_check::CheckFault;
 use sel_forest::ForestFault;
 use sel_grammar::GrammarFault;
 
@@ -22,8 +23,10 @@ pub enum Status {
     /// A write failed.
     WriteFault,
     NoMemory,
-    /// All was written, and some tree has no cover or a text that is too long.
+    /// All was written, and some tree has no cover, a text that is too long, or too few registers.
     Uncovered,
+    /// A text of certificates proves nothing.
+    BadCertificate(CheckFault),
 }
 
 impl Status {
@@ -41,6 +44,7 @@ impl Status {
             Status::WriteFault => 6,
             Status::NoMemory => 7,
             Status::Uncovered => 8,
+            Status::BadCertificate(_) => 9,
         }
     }
 }

@@ -11,24 +11,30 @@ fn put_mode(text: &mut String, mode: Mode) -> Result<(), NoMemory> {
         Mode::Select => "select",
         Mode::Print => "print",
         Mode::Summary => "summary",
+        Mode::Certify => "certify",
     })?;
     Ok(())
 }
 
-// What is done, the grammar's word, how long its shipped text is, and the forest's name. Each name stands
-// between quotes.
+// What is done, the grammar's word, how long its shipped text is, the forest's name, and the names of registers
+// or of the certificates' text. Each name stands between quotes.
 fn put_job(text: &mut String, command: &Command<'_>) -> Result<(), NoMemory> {
     match command.job {
         Job::PrintGrammar => text.push_str("print")?,
         Job::Make => text.push_str("make")?,
         Job::OverForest(mode, _) => put_mode(text, mode)?,
+        Job::Regs(_, _) => text.push_str("regs")?,
+        Job::Check(_, _) => text.push_str("check")?,
     }
     write!(text, " '{}'", command.grammar)?;
     if let GrammarSource::Shipped(shipped) = command.source {
         write!(text, " of {} bytes", shipped.len())?;
     }
-    if let Job::OverForest(_, forest) = command.job {
-        write!(text, " '{forest}'")?;
+    match command.job {
+        Job::PrintGrammar | Job::Make => {}
+        Job::OverForest(_, forest) => write!(text, " '{forest}'")?,
+        Job::Regs(forest, registers) => write!(text, " '{forest}' registers '{registers}'")?,
+        Job::Check(forest, certificate) => write!(text, " '{forest}' '{certificate}'")?,
     }
     Ok(())
 }
@@ -43,8 +49,8 @@ fn put_settings(text: &mut String, settings: Settings) -> Result<(), NoMemory> {
     Ok(())
 }
 
-/// What the words ask for: `JOB 'GRAMMAR' ['FOREST'] workers N states N rows N seed N trees N size N`, or
-/// `no command`.
+/// What the words ask for: `JOB 'GRAMMAR' ['FOREST'] workers N states N rows N seed N trees N size N`, with
+/// `registers 'NAMES'` or `'CERTIFICATE'` behind the forest where these are, or `no command`.
 pub fn command_told(alloc: Global, words: &str) -> Result<Answer, NoMemory> {
     let words = words_of(alloc, words)?;
     let mut text = String::new(alloc);

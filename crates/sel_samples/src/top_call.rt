@@ -38,6 +38,12 @@ fn is_told(status: &Status, alloc: Global, err: &[u8]) -> Result<bool, NoMemory>
                 fault.line, fault.column, fault.kind
             )?
         }
+        Status::BadCertificate(fault) => {
+            format!(in alloc;
+                ":{}: certificate fault {} ",
+                fault.line, fault.kind
+            )?
+        }
         _ => return Ok(true),
     };
     let told = told.as_bytes();

@@ -326,8 +326,8 @@ or_split false b e = (refl, e)
 same : (known name : Text) → bytes_eq known name ≡ true → known ≡ name
 same known name e = (bytes_eq-Decides known name).0 e
 
-pub names_case : (Q : Text → Type 0) → Q (codes "workers") → Q (codes "states") → Q (codes "rows") → Q (codes "seed") → Q (codes "trees") → Q (codes "size") → (name : Text) → is_name name ≡ true → Q name
-names_case Q a b c d e f name m =
+pub names_case : (Q : Text → Type 0) → Q (codes "workers") → Q (codes "states") → Q (codes "rows") → Q (codes "seed") → Q (codes "trees") → Q (codes "size") → Q (codes "registers") → (name : Text) → is_name name ≡ true → Q name
+names_case Q a b c d e f g name m =
     elim (or_cases (bytes_eq (codes "workers") name) _ m) [
       | inl x ↦ subst Q (same _ name x) a
       | inr m ↦
@@ -343,7 +343,11 @@ names_case Q a b c d e f name m =
                             elim (or_cases (bytes_eq (codes "trees") name) _ m) [
                               | inl x ↦ subst Q (same _ name x) e
                               | inr m ↦
-                                  elim (or_cases (bytes_eq (codes "size") name) _ m) [ inl x ↦ subst Q (same _ name x) f | inr m ↦ absurd (true≢false (sym m)) ]
+                                  elim (or_cases (bytes_eq (codes "size") name) _ m) [
+                                    | inl x ↦ subst Q (same _ name x) f
+                                    | inr m ↦
+                                        elim (or_cases (bytes_eq (codes "registers") name) _ m) [ inl x ↦ subst Q (same _ name x) g | inr m ↦ absurd (true≢false (sym m)) ]
+                                  ]
                             ]
                       ]
                 ]
@@ -358,16 +362,17 @@ no_name name m =
     let d = or_split (bytes_eq (codes "seed") name) _ c.1 in
     let e = or_split (bytes_eq (codes "trees") name) _ d.1 in
     let f = or_split (bytes_eq (codes "size") name) _ e.1 in
-    rw (a.0, b.0, c.0, d.0, e.0, f.0) refl
+    let g = or_split (bytes_eq (codes "registers") name) _ f.1 in
+    rw (a.0, b.0, c.0, d.0, e.0, f.0, g.0) refl
 
 pub sel_is : IsSel (built sel_app).top
 sel_is = record {
   by_index = refl;
-  by_long = names_case (λ name. arg_by_long (built sel_app).top.rules name ≡ Some (option_argument name)) refl refl refl refl refl refl;
+  by_long = names_case (λ name. arg_by_long (built sel_app).top.rules name ≡ Some (option_argument name)) refl refl refl refl refl refl refl;
   by_no_long = no_name;
   by_short = λ c. refl;
   plain_id = refl;
-  option_id = names_case (λ name. arg_by_id (built sel_app).top.rules name ≡ Some (option_argument name)) refl refl refl refl refl refl;
+  option_id = names_case (λ name. arg_by_id (built sel_app).top.rules name ≡ Some (option_argument name)) refl refl refl refl refl refl refl;
   help = refl;
 }
 

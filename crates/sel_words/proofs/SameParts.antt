@@ -5,14 +5,15 @@ use Rattle.std.specs.Prelude.{bytes_eq, option_map, option_and_then}
 use Rattle.std.specs.List.{list_any}
 use Rattle.clap.specs.declared.parser.matches.ArgMatches.{ArgMatches}
 use Rattle.sel_words.specs.Split.{Given, Parts, is_hyphened, is_option, is_name, name_in, value_in, with_given, with_plain, parts_of, values_for}
+use Rattle.sel_words.specs.Registers.{are_registers, register_names, given_registers}
 use Rattle.sel_words.specs.Settings.{is_number, chosen_value, chosen_settings, workers_bounds, states_bounds, rows_bounds, seed_bounds, trees_bounds, size_bounds}
 use Rattle.sel_words.specs.declared.settings.Bounds.{Bounds}
 use Rattle.sel_words.specs.declared.settings.Settings.{Settings}
-use Rattle.sel_words.specs.Words.{asked_by, command}
+use Rattle.sel_words.specs.Words.{Task, task_of, asked_by, command}
 use Rattle.sel_words.specs.Found.{values_in, IsFound}
 use Rattle.sel_words.proofs.ClapReading.{Text, dashes, is_plain, reads, plain_name, value_at, values}
 use Rattle.sel_words.proofs.ClapTakes.{names_case, same_bytes}
-use Rattle.sel_words.proofs.WordShapes.{long_some, long_none, short_is, no_number}
+use Rattle.sel_words.proofs.WordShapes.{long_some, long_none, short_is, no_number, no_registers}
 
 -- the parts have these values, under each name and among the plain words
 abbrev Matches : Option Parts → (Text → List Text) → Type 0
@@ -20,10 +21,10 @@ Matches (Some parts) vs = (vs plain_name ≡ parts.plain) × ((name : Text) → 
 Matches None vs = ⊥
 
 no_plain : (name : Text) → is_name name ≡ true → bytes_eq name plain_name ≡ false
-no_plain = names_case (λ name. bytes_eq name plain_name ≡ false) refl refl refl refl refl refl
+no_plain = names_case (λ name. bytes_eq name plain_name ≡ false) refl refl refl refl refl refl refl
 
 plain_no : (name : Text) → is_name name ≡ true → bytes_eq plain_name name ≡ false
-plain_no = names_case (λ name. bytes_eq plain_name name ≡ false) refl refl refl refl refl refl
+plain_no = names_case (λ name. bytes_eq plain_name name ≡ false) refl refl refl refl refl refl refl
 
 given_value : (name value other : Text) (vs : List Text) (given : List Given) (b : Bool) → bytes_eq name other ≡ b → vs ≡ values_for other given
     → value_at other name value vs ≡ values_for other (record { name = name; value = value } ∷ given)
@@ -105,10 +106,21 @@ finds words found e r = found_parts _ _ found e ((matches words).0 r)
 
 -- ---- words that can't be read
 
-abbrev has_bad : Text → List Given → Bool
-has_bad name given = list_any (λ value. not (is_number value)) (values_for name given)
+-- the value is one for the option of this name
+abbrev is_lawful : Text → Text → Bool
+is_lawful name value = if bytes_eq name (codes "registers") then are_registers (register_names value) else is_number value
 
--- there are no parts, or some option's value is no number
+no_lawful : (name word : Text) → is_plain word ≡ false → is_lawful name word ≡ false
+no_lawful name word p = go (bytes_eq name (codes "registers")) refl
+  where
+    go : (b : Bool) → bytes_eq name (codes "registers") ≡ b → is_lawful name word ≡ false
+    go true e = rw e (no_registers word p)
+    go false e = rw e (no_number word p)
+
+abbrev has_bad : Text → List Given → Bool
+has_bad name given = list_any (λ value. not (is_lawful name value)) (values_for name given)
+
+-- there are no parts, or some option's value is none for it
 abbrev Refused : Option Parts → Type 0
 Refused o = IfSome o (λ parts. (name : Text) × (is_name name ≡ true) × (has_bad name parts.given ≡ true))
 
@@ -118,7 +130,7 @@ or_right false b e = e
 
 bad_behind : (name value other : Text) (given : List Given) (b : Bool) → bytes_eq name other ≡ b → has_bad other given ≡ true
     → has_bad other (record { name = name; value = value } ∷ given) ≡ true
-bad_behind name value other given true e h = rw e (or_right (not (is_number value)) _ h)
+bad_behind name value other given true e h = rw e (or_right (not (is_lawful other value)) _ h)
 bad_behind name value other given false e h = rw e h
 
 given_refused : (o : Option Parts) (name value : Text) → Refused o → Refused (option_map (with_given name value) o)
@@ -129,7 +141,7 @@ plain_refused : (o : Option Parts) (word : Text) → Refused o → Refused (opti
 plain_refused None word h = h
 plain_refused (Some parts) word h = h
 
-bad_refused : (o : Option Parts) (name value : Text) → is_name name ≡ true → is_number value ≡ false → Refused (option_map (with_given name value) o)
+bad_refused : (o : Option Parts) (name value : Text) → is_name name ≡ true → is_lawful name value ≡ false → Refused (option_map (with_given name value) o)
 bad_refused None name value m bad = tt
 bad_refused (Some parts) name value m bad = (name, m, rw (same_bytes name, bad) refl)
 
@@ -164,7 +176,7 @@ module _ (word : Text) (rest : List Text) (idle : IdleRefused rest) (wait : Wait
 
   value_refused : (name : Text) → is_name name ≡ true → (p : Bool) → is_plain word ≡ p → (p && reads None rest) ≡ false → Refused (parts_of (Some name) (word ∷ rest))
   value_refused name m true e r = given_refused _ name word (idle r)
-  value_refused name m false e r = bad_refused _ name word m (no_number word e)
+  value_refused name m false e r = bad_refused _ name word m (no_lawful name word e)
 
   wait_refused : WaitRefused (word ∷ rest)
   wait_refused name m r = value_refused name m (is_plain word) refl r
@@ -226,25 +238,48 @@ no_size (Some w) (Some s) (Some r) (Some d) (Some t) = refl
 abbrev under : Bounds → Text → List Given → Option ℕ
 under bounds name given = chosen_value bounds (values_for name given)
 
-bad_settings : (given : List Given) (name : Text) → is_name name ≡ true → has_bad name given ≡ true → chosen_settings (λ other. values_for other given) ≡ None
-bad_settings given =
+bad_registers : (vs : List Text) → list_any (λ value. not (are_registers (register_names value))) vs ≡ true → given_registers vs ≡ None
+bad_registers [] e = absurd (true≢false (sym e))
+bad_registers (v ∷ []) e = go (are_registers (register_names v)) refl
+  where
+    go : (b : Bool) → are_registers (register_names v) ≡ b → given_registers (v ∷ []) ≡ None
+    go true f = absurd (true≢false (sym (rw f at e)))
+    go false f = rw f refl
+bad_registers (v ∷ w ∷ vs) e = refl
+
+-- what is asked for by settings and given registers
+abbrev asked : Option Settings → Option (Option Text) → List Text → Option Task
+asked s r plain = option_and_then (λ settings. option_and_then (λ given. task_of settings given plain) r) s
+
+no_settings : (s : Option Settings) (r : Option (Option Text)) (plain : List Text) → s ≡ None → asked s r plain ≡ None
+no_settings s r plain e = rw e refl
+
+no_given : (s : Option Settings) (r : Option (Option Text)) (plain : List Text) → r ≡ None → asked s r plain ≡ None
+no_given None r plain e = refl
+no_given (Some settings) r plain e = rw e refl
+
+bad_asked : (given : List Given) (plain : List Text) (name : Text) → is_name name ≡ true → has_bad name given ≡ true
+    → asked (chosen_settings (λ other. values_for other given)) (given_registers (values_for (codes "registers") given)) plain ≡ None
+bad_asked given plain =
     let w : Option ℕ = under workers_bounds (codes "workers") given in
     let s : Option ℕ = under states_bounds (codes "states") given in
     let r : Option ℕ = under rows_bounds (codes "rows") given in
     let d : Option ℕ = under seed_bounds (codes "seed") given in
     let t : Option ℕ = under trees_bounds (codes "trees") given in
     let z : Option ℕ = under size_bounds (codes "size") given in
-    names_case (λ name. has_bad name given ≡ true → chosen_settings (λ other. values_for other given) ≡ None)
-    (λ e. ap (λ o. six o s r d t z) (bad_value workers_bounds (values_for (codes "workers") given) e) ∙ no_workers s r d t z)
-    (λ e. ap (λ o. six w o r d t z) (bad_value states_bounds (values_for (codes "states") given) e) ∙ no_states w r d t z)
-    (λ e. ap (λ o. six w s o d t z) (bad_value rows_bounds (values_for (codes "rows") given) e) ∙ no_rows w s d t z)
-    (λ e. ap (λ o. six w s r o t z) (bad_value seed_bounds (values_for (codes "seed") given) e) ∙ no_seed w s r t z)
-    (λ e. ap (λ o. six w s r d o z) (bad_value trees_bounds (values_for (codes "trees") given) e) ∙ no_trees w s r d z)
-    (λ e. ap (λ o. six w s r d t o) (bad_value size_bounds (values_for (codes "size") given) e) ∙ no_size w s r d t)
+    let registers : Option (Option Text) = given_registers (values_for (codes "registers") given) in
+    names_case (λ name. has_bad name given ≡ true → asked (chosen_settings (λ other. values_for other given)) registers plain ≡ None)
+    (λ e. no_settings _ registers plain (ap (λ o. six o s r d t z) (bad_value workers_bounds (values_for (codes "workers") given) e) ∙ no_workers s r d t z))
+    (λ e. no_settings _ registers plain (ap (λ o. six w o r d t z) (bad_value states_bounds (values_for (codes "states") given) e) ∙ no_states w r d t z))
+    (λ e. no_settings _ registers plain (ap (λ o. six w s o d t z) (bad_value rows_bounds (values_for (codes "rows") given) e) ∙ no_rows w s d t z))
+    (λ e. no_settings _ registers plain (ap (λ o. six w s r o t z) (bad_value seed_bounds (values_for (codes "seed") given) e) ∙ no_seed w s r t z))
+    (λ e. no_settings _ registers plain (ap (λ o. six w s r d o z) (bad_value trees_bounds (values_for (codes "trees") given) e) ∙ no_trees w s r d z))
+    (λ e. no_settings _ registers plain (ap (λ o. six w s r d t o) (bad_value size_bounds (values_for (codes "size") given) e) ∙ no_size w s r d t))
+    (λ e. no_given (chosen_settings (λ other. values_for other given)) registers plain (bad_registers (values_for (codes "registers") given) e))
 
 refused_none : (o : Option Parts) → Refused o → option_and_then asked_by o ≡ None
 refused_none None h = refl
-refused_none (Some parts) h = rw (bad_settings parts.given h.0 h.1 h.2) refl
+refused_none (Some parts) h = bad_asked parts.given parts.plain h.0 h.1 h.2
 
 -- where clap can't read the words, they are no command
 pub no_command : (words : List Text) → reads None words ≡ false → command words ≡ None

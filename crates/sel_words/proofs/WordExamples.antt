@@ -1,13 +1,16 @@
 -- Lists of words, with what they ask for, by hand.
-use Rattle.std.proofs.Common.{◌≡◌, [], ◌∷◌, Option, Some, None, refl, codes}
+use Rattle.std.proofs.Common.{◌≡◌, ℕ, List, [], ◌∷◌, Option, Some, None, refl, codes}
 use Rattle.sel_words.specs.declared.settings.Settings.{Settings}
-use Rattle.sel_words.specs.declared.words.Mode.TheVariants.{Cover, Select, Print}
+use Rattle.sel_words.specs.declared.words.Mode.TheVariants.{Cover, Select, Print, Certify}
 use Rattle.sel_targets.specs.Rv64i.{rv64i_text}
 use Rattle.sel_targets.specs.X8664.{x86_64_text}
-use Rattle.sel_words.specs.Words.{Task, PrintGrammar, OverForest, Held, Shipped, command}
+use Rattle.sel_words.specs.Words.{Task, PrintGrammar, OverForest, Regs, Check, Held, Shipped, command}
 
 abbrev plain_settings : Settings
 plain_settings = record { workers = 4; states = 4096; rows = 65536; seed = 1; trees = 1000; size = 64 }
+
+abbrev plain_registers : List (List ℕ)
+plain_registers = codes "r0" ∷ codes "r1" ∷ codes "r2" ∷ codes "r3" ∷ codes "r4" ∷ codes "r5" ∷ codes "r6" ∷ codes "r7" ∷ []
 
 abbrev plain : Settings → Option Task
 plain settings = Some (record { job = OverForest Cover (codes "f"); grammar = codes "g0"; source = Held; settings = settings })
@@ -87,3 +90,36 @@ largest_seed = refl
 
 seed_too_large : command (codes "cover" ∷ codes "g0" ∷ codes "f" ∷ codes "--seed=18446744073709551616" ∷ []) ≡ no
 seed_too_large = refl
+
+certified : command (codes "certify" ∷ codes "g0" ∷ codes "f" ∷ []) ≡ Some (record { job = OverForest Certify (codes "f"); grammar = codes "g0"; source = Held; settings = plain_settings })
+certified = refl
+
+checked : command (codes "check" ∷ codes "g0" ∷ codes "f" ∷ codes "c" ∷ []) ≡ Some (record { job = Check (codes "f") (codes "c"); grammar = codes "g0"; source = Held; settings = plain_settings })
+checked = refl
+
+check_of_two : command (codes "check" ∷ codes "g0" ∷ codes "f" ∷ []) ≡ no
+check_of_two = refl
+
+certify_of_three : command (codes "certify" ∷ codes "g0" ∷ codes "f" ∷ codes "c" ∷ []) ≡ no
+certify_of_three = refl
+
+registered : command (codes "regs" ∷ codes "g0" ∷ codes "f" ∷ codes "--registers" ∷ codes "a,b" ∷ []) ≡ Some (record { job = Regs (codes "a" ∷ codes "b" ∷ []) (codes "f"); grammar = codes "g0"; source = Held; settings = plain_settings })
+registered = refl
+
+plain_registered : command (codes "regs" ∷ codes "g0" ∷ codes "f" ∷ []) ≡ Some (record { job = Regs plain_registers (codes "f"); grammar = codes "g0"; source = Held; settings = plain_settings })
+plain_registered = refl
+
+shipped_registered : command (codes "regs" ∷ codes "@x86-64" ∷ codes "f" ∷ []) ≡ Some (record { job = Regs (codes "r8" ∷ codes "r9" ∷ codes "r10" ∷ codes "r11" ∷ []) (codes "f"); grammar = codes "@x86-64"; source = Shipped x86_64_text; settings = plain_settings })
+shipped_registered = refl
+
+same_register : command (codes "regs" ∷ codes "g0" ∷ codes "f" ∷ codes "--registers" ∷ codes "a,a" ∷ []) ≡ no
+same_register = refl
+
+no_register : command (codes "regs" ∷ codes "g0" ∷ codes "f" ∷ codes "--registers=" ∷ []) ≡ no
+no_register = refl
+
+long_register : command (codes "regs" ∷ codes "g0" ∷ codes "f" ∷ codes "--registers=abcdefghijklmno1" ∷ []) ≡ no
+long_register = refl
+
+longest_register : command (codes "regs" ∷ codes "g0" ∷ codes "f" ∷ codes "--registers=abcdefghijklmno" ∷ []) ≡ Some (record { job = Regs (codes "abcdefghijklmno" ∷ []) (codes "f"); grammar = codes "g0"; source = Held; settings = plain_settings })
+longest_register = refl

@@ -1,10 +1,12 @@
 -- Our shapes of a word are clap's.
 use Rattle.std.proofs.Common.{◌≡◌, ℕ, ◌==◌, Bool, true, false, ◌&&◌, if◌then◌else◌, [], ◌∷◌, Some, None, is_some, length, refl, sym, ap, ◌∙◌, subst}
 use Rattle.std.proofs.Common.{true≢false}
-use Rattle.std.specs.Prelude.{bytes_eq, nat_le}
+use Rattle.std.specs.Prelude.{List, bytes_eq, nat_le}
+use Rattle.std.specs.List.{list_all, onto_first}
 use Rattle.std.proofs.lemmas.Bool.{eqb-true}
 use Rattle.clap.specs.Lexer.{long_of, short_of}
 use Rattle.sel_words.specs.Split.{is_hyphened, is_option, name_in, value_in}
+use Rattle.sel_words.specs.Registers.{longest_register, most_registers, is_register, are_different, are_registers, register_names}
 use Rattle.sel_words.specs.Settings.{is_number, most_digits}
 use Rattle.sel_words.proofs.ClapReading.{Text, dashes, is_plain}
 
@@ -64,11 +66,35 @@ and_false false = refl
 hyphen_number : (rest : Text) → is_number (45 ∷ rest) ≡ false
 hyphen_number rest = ap (λ b. nat_le 1 (length (45 ∷ rest)) && b) (and_false (nat_le (length (45 ∷ rest)) most_digits)) ∙ and_false (nat_le 1 (length (45 ∷ rest)))
 
--- a number is plain, so a value that clap doesn't take is none
-pub no_number : (word : Text) → is_plain word ≡ false → is_number word ≡ false
-no_number [] p = refl
-no_number (x ∷ rest) p = go (x == 45) refl
+hyphen_register : (part : Text) → is_register (45 ∷ part) ≡ false
+hyphen_register part =
+    ap (λ b. nat_le 1 (length (45 ∷ part)) && b) (and_false (nat_le (length (45 ∷ part)) longest_register)) ∙ and_false (nat_le 1 (length (45 ∷ part)))
+
+-- the first of the names begins with the hyphen
+hyphen_names : (parts : List Text) → list_all is_register (onto_first 45 parts) ≡ false
+hyphen_names [] = rw (hyphen_register []) refl
+hyphen_names (part ∷ parts) = rw (hyphen_register part) refl
+
+both_false : (a b c : Bool) → b ≡ false → (a && (b && c)) ≡ false
+both_false true b c e = rw e refl
+both_false false b c e = refl
+
+hyphen_registers : (rest : Text) → are_registers (register_names (45 ∷ rest)) ≡ false
+hyphen_registers rest =
+    both_false (nat_le (length (register_names (45 ∷ rest))) most_registers) _ (are_different (register_names (45 ∷ rest))) (hyphen_names (register_names rest))
+
+-- a word that isn't plain begins with a hyphen
+not_plain : (Q : Text → Type 0) (word : Text) → is_plain word ≡ false → ((rest : Text) → Q (45 ∷ rest)) → Q word
+not_plain Q [] p h = absurd (true≢false p)
+not_plain Q (x ∷ rest) p h = go (x == 45) refl
   where
-    go : (b : Bool) → (x == 45) ≡ b → is_number (x ∷ rest) ≡ false
-    go true e = subst (λ (n : ℕ). is_number (n ∷ rest) ≡ false) (sym (eqb-true x 45 e)) (hyphen_number rest)
+    go : (b : Bool) → (x == 45) ≡ b → Q (x ∷ rest)
+    go true e = subst (λ (n : ℕ). Q (n ∷ rest)) (sym (eqb-true x 45 e)) (h rest)
     go false e = absurd (true≢false (rw e at p))
+
+-- numbers and names of registers are plain, so a value that clap doesn't take is none of them
+pub no_number : (word : Text) → is_plain word ≡ false → is_number word ≡ false
+no_number word p = not_plain (λ word. is_number word ≡ false) word p hyphen_number
+
+pub no_registers : (word : Text) → is_plain word ≡ false → are_registers (register_names word) ≡ false
+no_registers word p = not_plain (λ word. are_registers (register_names word) ≡ false) word p hyphen_registers

@@ -13,7 +13,11 @@ plain_rule = record (new_rule (codes "plain")) { action = Some Append }
 abbrev pub bare : App
 bare = on_top (λ s. record s { no_binary_name = true; disable_help_flag = true; disable_version_flag = true }) (new_app (codes "sel"))
 
-abbrev pub sel_app : App
-sel_app = with_rule (with_rule (with_rule (with_rule (with_rule (with_rule (with_rule bare
+-- the options whose values are numbers
+abbrev pub with_numbers : App → App
+with_numbers app = with_rule (with_rule (with_rule (with_rule (with_rule (with_rule app
     (option_rule (codes "workers"))) (option_rule (codes "states"))) (option_rule (codes "rows")))
-    (option_rule (codes "seed"))) (option_rule (codes "trees"))) (option_rule (codes "size"))) plain_rule
+    (option_rule (codes "seed"))) (option_rule (codes "trees"))) (option_rule (codes "size"))
+
+abbrev pub sel_app : App
+sel_app = with_rule (with_rule (with_numbers bare) (option_rule (codes "registers"))) plain_rule

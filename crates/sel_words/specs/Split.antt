@@ -36,7 +36,7 @@ value_in word = if list_any is_equals (drop 2 word) then Some (after_first is_eq
 
 -- the names of the options
 abbrev pub names : List (List ℕ)
-names = codes "workers" ∷ codes "states" ∷ codes "rows" ∷ codes "seed" ∷ codes "trees" ∷ codes "size" ∷ []
+names = codes "workers" ∷ codes "states" ∷ codes "rows" ∷ codes "seed" ∷ codes "trees" ∷ codes "size" ∷ codes "registers" ∷ []
 
 abbrev pub is_name : List ℕ → Bool
 is_name name = list_any (λ known. bytes_eq known name) names

@@ -1,7 +1,7 @@
 // The words as clap takes them apart.
 ghost use Rattle.std.specs.Prelude.{◌≡◌, true, None, Some, map, string_bytes, codes, IfOk, IfErr, OnOk, IsNone, IfSome, []};
 ghost use Rattle.clap.specs.Words.{found_of, kind_of, takes, matches_of, rule_of, app_of, rows_of, fault_of, is_simple, with_rule};
-ghost use Rattle.sel_words.specs.CommandLine.{option_rule, plain_rule, bare, sel_app};
+ghost use Rattle.sel_words.specs.CommandLine.{option_rule, plain_rule, bare, with_numbers, sel_app};
 ghost use Rattle.sel_words.specs.Found.{IsFound};
 ghost use Rattle.sel_words.specs.Split.{Parts, parts_of};
 ghost use Rattle.sel_words.specs.Words.{command};
@@ -38,16 +38,23 @@ fn bare_command<'a>(alloc: Global) -> Command<'a>
         .disable_version_flag(true)
 }
 
-fn command_line<'a>(alloc: Global) -> Result<Command<'a>, AllocError>
-    ensures { IfOk result (λ line. app_of line ≡ sel_app) }
+fn with_numbers<'a>(line: Command<'a>, alloc: Global) -> Result<Command<'a>, AllocError>
+    ensures { IfOk result (λ grown. app_of grown ≡ with_numbers (app_of line.entry)) }
 {
-    let line = bare_command(alloc);
     let line = with_option(line, alloc, "workers")?;
     let line = with_option(line, alloc, "states")?;
     let line = with_option(line, alloc, "rows")?;
     let line = with_option(line, alloc, "seed")?;
     let line = with_option(line, alloc, "trees")?;
-    let line = with_option(line, alloc, "size")?;
+    with_option(line, alloc, "size")
+}
+
+fn command_line<'a>(alloc: Global) -> Result<Command<'a>, AllocError>
+    ensures { IfOk result (λ line. app_of line ≡ sel_app) }
+{
+    let line = bare_command(alloc);
+    let line = with_numbers(line, alloc)?;
+    let line = with_option(line, alloc, "registers")?;
     with_plain_words(line, alloc)
 }
 

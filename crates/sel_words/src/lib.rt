@@ -2,8 +2,10 @@
 #![tactic(auto)]
 
 mod command_line;
+mod registers;
 mod settings;
 mod words;
 
+pub use registers::register_names;
 pub use settings::Settings;
 pub use words::{Command, GrammarSource, Job, Mode, read_words};

@@ -8,10 +8,11 @@ ghost use Rattle.sel_words.specs.Names.{task_for};
 ghost use Rattle.sel_words.specs.Words.{OverForest};
 ghost use Rattle.sel_words.specs.declared.words.Mode.TheVariants.{Summary as summary};
 ghost use Rattle.sel_cli.specs.Texts.{MayBe, AcceptsGrammar, forest_limit, request_of};
-ghost use Rattle.sel_cli.specs.Parts.{StopsOver, AnswersOver, DoesJobOver, Serves};
+ghost use Rattle.sel_cli.specs.Parts.{StopsOver, TellsOver, WritesOver, IsCertifiedForest, HasNames, DoesJobOver, Serves};
 
 use crate::jobs::Ended;
-use crate::jobs::each_tree::answer_each;
+use crate::jobs::certify::certify_forest;
+use crate::jobs::each_tree::{Telling, answer_each};
 use crate::jobs::print_forest::print_forest;
 use crate::jobs::reported::Reported;
 use crate::jobs::summary::sum_forest;
@@ -25,10 +26,10 @@ use std::alloc::Global;
 use std::thread::Threads;
 
 /// The greatest length of a forest's text, in bytes.
-const FOREST_LIMIT: usize = 67_108_864;
+pub const FOREST_LIMIT: usize = 67_108_864;
 
-// The forest that the text spells. The text isn't kept.
-fn forest_in(alloc: Global, accepted: &Accepted, text: Vec<u8>) -> Result<Forest, Status>
+/// The forest that the text spells. The text isn't kept.
+pub fn forest_in(alloc: Global, accepted: &Accepted, text: Vec<u8>) -> Result<Forest, Status>
     requires form { IsAcceptedForm accepted.now.grammar accepted.now.normal }
     requires short { length text.items ≤ forest_limit }
     ensures spelled { IfOk result (λ forest. SpellsForest accepted.now.grammar text.items forest) }
@@ -42,25 +43,38 @@ fn forest_in(alloc: Global, accepted: &Accepted, text: Vec<u8>) -> Result<Forest
     }
 }
 
-// Answers the trees of the forest that the text spells, one by one.
-fn answer_in<Rt: Threads + Sync, K: Sink, G: Gate>(
+/// Writes what is told of each tree of the forest that the text spells.
+pub fn tell_in<Rt: Threads + Sync, K: Sink, G: Gate>(
     rt: &Rt,
     alloc: Global,
     accepted: &Accepted,
     settings: Settings,
     text: Vec<u8>,
-    goal: Goal,
+    telling: Telling<'_>,
     out: &mut K,
     gate: &G,
 ) -> Reported
     requires form { IsAcceptedForm accepted.now.grammar accepted.now.normal }
     requires settings { AreWithinBounds settings }
     requires short { length text.items ≤ forest_limit }
-    ensures { AnswersOver settings accepted.now.grammar goal text.items (K.told out.old) (K.told out.new) result.status result.report }
+    requires names { HasNames telling }
+    ensures { TellsOver settings accepted.now.grammar telling.entry text.items (K.told out.old) (K.told out.new) result.status result.report }
 {
     match forest_in(alloc, accepted, text) {
-        Ok(forest) => answer_each(rt, alloc, accepted, settings, &forest, goal, out, gate),
+        Ok(forest) => answer_each(rt, alloc, accepted, settings, &forest, telling, out, gate),
         Err(status) => Reported::without(status),
+    }
+}
+
+// Certifies the trees of the forest that the text spells.
+fn certify_in<K: Sink>(alloc: Global, accepted: &Accepted, text: Vec<u8>, out: &mut K) -> Status
+    requires form { IsAcceptedForm accepted.now.grammar accepted.now.normal }
+    requires short { length text.items ≤ forest_limit }
+    ensures { WritesOver (IsCertifiedForest accepted.now.grammar) accepted.now.grammar text.items (K.told out.old) (K.told out.new) result }
+{
+    match forest_in(alloc, accepted, text) {
+        Ok(forest) => certify_forest(alloc, &accepted.grammar, &forest, out),
+        Err(status) => status,
     }
 }
 
@@ -102,10 +116,17 @@ fn serve_text<Rt: Threads + Sync, K: Sink, G: Gate>(
     ensures { (name : List ℕ) → DoesJobOver settings (OverForest mode name) accepted.now.grammar text.items (K.told out.old) (K.told out.new) result.status result.report }
 {
     match mode {
-        Mode::Cover => answer_in(rt, alloc, accepted, settings, text, Goal::Cover, out, gate),
-        Mode::Select => answer_in(rt, alloc, accepted, settings, text, Goal::Text, out, gate),
+        Mode::Cover => {
+            let telling = Telling::Answer(Goal::Cover);
+            tell_in(rt, alloc, accepted, settings, text, telling, out, gate)
+        }
+        Mode::Select => {
+            let telling = Telling::Answer(Goal::Text);
+            tell_in(rt, alloc, accepted, settings, text, telling, out, gate)
+        }
         Mode::Summary => sum_in(rt, alloc, accepted, settings, text, out, gate),
         Mode::Print => Reported::without(print_forest(alloc, accepted, text, out)),
+        Mode::Certify => Reported::without(certify_in(alloc, accepted, text, out)),
     }
 }
 

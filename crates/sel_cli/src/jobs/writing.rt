@@ -1,5 +1,5 @@
-// A job's output, which is made whole, is written.
-ghost use Rattle.sel_cli.specs.Parts.{Writes, IsThis};
+// An output that is made whole is written.
+ghost use Rattle.sel_cli.specs.Parts.{Writes, EndsBatch, IsThis};
 
 use crate::status::{Status, finished};
 use sel_answers::Output;
@@ -15,5 +15,16 @@ pub fn write_output<K: Sink>(out: &mut K, output: &Output) -> Status
             SinkFault::Failed => Status::WriteFault,
             SinkFault::NoMemory => Status::NoMemory,
         },
+    }
+}
+
+/// Writes the output of some trees. Ok tells whether each of them is covered.
+pub fn write_piece<K: Sink>(out: &mut K, output: &Output) -> Result<bool, Status>
+    ensures done { EndsBatch (IsThis output.now.covered output.now.text.items) (K.told out.old) (K.told out.new) result }
+{
+    match write_output(out, output) {
+        Status::Done => Ok(true),
+        Status::Uncovered => Ok(false),
+        status => Err(status),
     }
 }

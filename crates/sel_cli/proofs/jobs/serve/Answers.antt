@@ -16,14 +16,14 @@ returns-in-PrintGrammar-clause-served g c =
     let task = task_for c.args.command in
     let status = c.print_grammar.result in
     serves_as (Some task) _ _ _ _ c.args.command.grammar.now _ status _ nothing_reported _ c.without-in-PrintGrammar.ensures.name c.without-in-PrintGrammar.ensures.status c.without-in-PrintGrammar.ensures.report
-    (job_serves c.in-Ok.accepted task _ c.in-Ok.accepted.grammar c.args.command.grammar.now _ _ _ _ status nothing_reported (ap (job_for c.args.command.settings) c.in-PrintGrammar.is) refl c.in-Ok.ensures.accepted c.in-Ok.ensures.reads
+    (job_serves c.in-Ok.accepted task _ c.in-Ok.accepted.grammar c.args.command.grammar.now _ _ _ _ status nothing_reported (ap (job_for c.args.command.settings) c.in-PrintGrammar.is) refl refl c.in-Ok.ensures.accepted c.in-Ok.ensures.reads
     (grammar_printed c.args.command.settings c.in-Ok.accepted.grammar _ _ status nothing_reported refl c.print_grammar.ensures.done))
 
 pub returns-in-Make-clause-served : goal.returns-in-Make-clause-served
 returns-in-Make-clause-served g c =
     let task = task_for c.args.command in
     serves_as (Some task) _ _ _ _ c.args.command.grammar.now _ c.make.result.status _ c.make.result.report _ c.of.ensures.name c.of.ensures.status c.of.ensures.report
-    (job_serves c.in-Ok.accepted task _ c.in-Ok.accepted.grammar c.args.command.grammar.now _ _ _ _ c.make.result.status c.make.result.report (ap (job_for c.args.command.settings) c.in-Make.is) refl c.in-Ok.ensures.accepted c.in-Ok.ensures.reads c.make.ensures)
+    (job_serves c.in-Ok.accepted task _ c.in-Ok.accepted.grammar c.args.command.grammar.now _ _ _ _ c.make.result.status c.make.result.report (ap (job_for c.args.command.settings) c.in-Make.is) refl refl c.in-Ok.ensures.accepted c.in-Ok.ensures.reads c.make.ensures)
 
 pub returns-clause-served : goal.returns-clause-served
 returns-clause-served g c =

@@ -1,8 +1,7 @@
 use Rattle.std.proofs.Common.{[], subst}
-use Rattle.sel_answers.specs.Output.{AreAnswered}
 use Rattle.sel_cli.specs.Crews.{HasAnswered}
 use Rattle.sel_cli.specs.Ends.{finished}
-use Rattle.sel_cli.specs.Parts.{Writes}
+use Rattle.sel_cli.specs.Parts.{AreTold, Writes}
 use Rattle.sel_cli.proofs.Batches.{closed_writes}
 use Rattle.sel_cli.proofs.jobs.each_tree.answer_each.Goals as goal
 
@@ -15,9 +14,8 @@ returns-in-Ok-write_batches g c =
     let same = c.as_slice-trees.ensures in
     let valid = c.forests_are_valid.ensures grammar c.args.forest.now c.requires.valid in
     record {
-      writes = closed_writes (AreAnswered grammar c.args.goal 0 trees) out now c.in-Ok-write_batches.covered c.close_behind.result.status _
-          (subst (λ l. Writes (AreAnswered grammar c.args.goal 0 l) out now (finished c.in-Ok-write_batches.covered)) same
-          (subst (λ x. Writes (AreAnswered x c.args.goal 0 c.as_slice-trees.result.now) out now (finished c.in-Ok-write_batches.covered)) c.in-Ok.ensures.grammar_is c.in-Ok-write_batches.ensures.done)) c.close_behind.ensures.status;
+      writes = closed_writes (AreTold grammar c.args.telling 0 trees) out now c.in-Ok-write_batches.covered c.close_behind.result.status _
+          (subst (λ l. Writes (AreTold grammar c.args.telling 0 l) out now (finished c.in-Ok-write_batches.covered)) same c.in-Ok-write_batches.ensures.done) c.close_behind.ensures.status;
       reports = c.close_behind.ensures.report grammar c.args.settings trees valid
           (subst (λ l. HasAnswered grammar c.args.settings l c.write_batches.new.crew) same (c.in-Ok-write_batches.ensures.answered grammar c.args.settings [] c.in-Ok.ensures));
     }

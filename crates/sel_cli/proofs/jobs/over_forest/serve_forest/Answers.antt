@@ -1,6 +1,6 @@
 use Rattle.std.proofs.Common.{Some, refl, ap, subst, sym}
 use Rattle.sel_words.specs.Names.{task_for}
-use Rattle.sel_words.specs.Words.{forest_name}
+use Rattle.sel_words.specs.Words.{forest_name, certificate_name}
 use Rattle.sel_cli.specs.Parts.{DoesJobOver}
 use Rattle.sel_cli.specs.Reporting.{nothing_reported}
 use Rattle.sel_cli.proofs.Endings.{fetch_forest_stops}
@@ -16,7 +16,7 @@ returns-in-Ok g c =
     let report = c.serve_text.result.report in
     record {
       served = serves_as (Some task) _ _ _ _ c.args.name.now _ status _ report _ c.of.ensures.name c.of.ensures.status c.of.ensures.report
-          (over_serves c.in-Ok.text task grammar c.args.name.now text _ _ _ _ status report c.requires.grammar (ap forest_name c.requires.job) c.in-Ok.ensures.text c.in-Ok.ensures.within (c.in-Ok.ensures.reads (Some task))
+          (over_serves c.in-Ok.text task grammar c.args.name.now text _ _ _ _ status report c.requires.grammar (ap forest_name c.requires.job) (ap certificate_name c.requires.job) c.in-Ok.ensures.text c.in-Ok.ensures.within (c.in-Ok.ensures.reads (Some task))
           (subst (λ job. DoesJobOver c.args.command.settings job grammar text (g.K.Sink.told c.args.out.now) (g.K.Sink.told c.serve_text.new.out) status report) (sym c.requires.job) (c.serve_text.ensures c.args.name.now)));
     }
 

@@ -1,0 +1,5 @@
+use Rattle.sel_cli.proofs.Certifying.{are_trees}
+use Rattle.sel_cli.proofs.jobs.certify.batch_output.Goals as goal
+
+pub certify_trees-requires-clause-trees : goal.certify_trees-requires-clause-trees
+certify_trees-requires-clause-trees c = are_trees c.args.grammar.now c.args.batch.now c.requires.trees
