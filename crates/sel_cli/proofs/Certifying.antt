@@ -234,14 +234,15 @@ module _ (g : Grammar) (exist : ItemsExist) (lawful : IsLawful g) (accepted : Is
 
     certificate_by : (a : Option Cover) → IsAnswer g t a → (c : TreeCertificate) × IsCertified g tree c
     certificate_by a is =
-        let rules : Option (List ℕ) = option_map (λ (cover : Cover). cover.rules) a in
-        (record { costs = costs; rules = rules },
-        record {
-          places = has_places;
-          costs = best_costs;
-          rules = λ s spells. best_list g s a rules (subst (λ x. IsAnswer g x a) (plain_one tree t s spelled spells) is) refl;
-          printable = printable g t costs a rules lawful.within small_costs is refl;
-        })
+        let rules : Option (List ℕ) = option_map (λ (cover : Cover). cover.rules) a in (
+          record { costs = costs; rules = rules },
+          record {
+            places = has_places;
+            costs = best_costs;
+            rules = λ s spells. best_list g s a rules (subst (λ x. IsAnswer g x a) (plain_one tree t s spelled spells) is) refl;
+            printable = printable g t costs a rules lawful.within small_costs is refl;
+          },
+        )
 
     certificate : (c : TreeCertificate) × IsCertified g tree c
     certificate =
@@ -262,7 +263,9 @@ module _ (g : Grammar) (exist : ItemsExist) (lawful : IsLawful g) (accepted : Is
     none = record { are_trees = All-nil IsTree; certified = record { certificates = []; certified = tt; text_is = refl; covered_is = refl } };
     joined = certified_joined g;
     some = λ before trees valid.
-        let cs = certificates_exist trees valid in
-        (list_all has_cover cs.0, certificates_text (before + 1) cs.0,
-        record { are_trees = are_trees g trees valid; certified = record { certificates = cs.0; certified = cs.1; text_is = refl; covered_is = refl } });
+        let cs = certificates_exist trees valid in (
+          list_all has_cover cs.0,
+          certificates_text (before + 1) cs.0,
+          record { are_trees = are_trees g trees valid; certified = record { certificates = cs.0; certified = cs.1; text_is = refl; covered_is = refl } },
+        );
   }

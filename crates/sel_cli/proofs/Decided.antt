@@ -431,7 +431,6 @@ long_found : (Is : Option (List ℕ) → List ℕ → Type 0) (request : Request
 long_found Is request name limit bytes (inl (task, text, has, named, l, long)) = (Some long_grammar, (task, text, has, subst (λ k. k < length text) l long), refl)
 long_found Is request name limit bytes (inr (inl (task, g, text, has, l, long))) =
     (Some (beside task.job g long_forest), forest_found Is request task g name text long_forest has (subst (λ k. k < length text) l long), refl)
-
 long_found Is request name limit bytes (inr (inr (task, g, forest, text, has, l, long))) =
     let found = certificate_found Is request task g forest name text long_certificate has (subst (λ k. k < length text) l long) in
     (Some (beside task.job g (good_forest forest long_certificate)), forest_accepted Is request task g forest long_certificate has.accepts_forest found, refl)

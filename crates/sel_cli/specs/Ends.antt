@@ -20,7 +20,7 @@ use Rattle.sel_cli.specs.declared.status.Status.TheVariants.{Done, Usage, ReadFa
 abbrev pub IsWanted : Request → List ℕ → Type 0
 IsWanted request name = (task : Task) × (request.wanted ≡ Some task)
     × ((grammar_name task ≡ Some name) ⊎ ((grammar : Grammar) × AcceptsGrammar MayBe request task grammar × (forest_name task.job ≡ Some name))
-        ⊎ ((grammar : Grammar) × (forest : Forest) × AcceptsForest MayBe request task grammar forest × (certificate_name task.job ≡ Some name)))
+    ⊎ ((grammar : Grammar) × (forest : Forest) × AcceptsForest MayBe request task grammar forest × (certificate_name task.job ≡ Some name)))
 
 -- the count of faults rose, and the last read was of this text and failed
 pub record IsUnread (request : Request) (before now : ShelfTold) (name : List ℕ) : Type 0 where

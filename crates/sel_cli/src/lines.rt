@@ -133,11 +133,7 @@ fn put_forest_fault(text: &mut Vec<u8>, name: &[u8], fault: ForestFault) -> Resu
     Ok(())
 }
 
-fn put_certificate_fault(
-    text: &mut Vec<u8>,
-    name: &[u8],
-    fault: CheckFault,
-) -> Result<(), NoMemory>
+fn put_certificate_fault(text: &mut Vec<u8>, name: &[u8], fault: CheckFault) -> Result<(), NoMemory>
     ensures { OnOk result (text.new.items ≡ text.old.items ++ certificate_fault_line name.now fault) }
 {
     put(text, name)?;
