@@ -75,7 +75,7 @@ module _ (g : Grammar) (Is : ℕ → List Tree → Bool → List ℕ → Type 0)
   pub nothing_written : (sink : SinkTold) → Writes (Is 0 []) sink sink (finished true)
   nothing_written sink = record { bytes = []; why = parts.none; written = nothing_taken sink.taken; keeps = output_kept sink (finished true) }
 
-  pub none_so_far : (trees : List Tree) (sink : SinkTold) → WrittenSoFar Is trees trees 0 true sink sink
+  abbrev pub none_so_far : (trees : List Tree) (sink : SinkTold) → WrittenSoFar Is trees trees 0 true sink sink
   none_so_far trees sink = record { done = []; cut = refl; count = refl; writes = nothing_written sink }
 
   -- a front of a batch's text is a front with more trees behind the batch
@@ -188,6 +188,7 @@ module _ (g : Grammar) (Is : ℕ → List Tree → Bool → List ℕ → Type 0)
 pub batch_answered : (g : Grammar) (Is : ℕ → List Tree → Bool → List ℕ → Type 0) (parts : HasParts g Is) (trees rest batch more : List Tree) (before : ℕ) (covered all : Bool) (old new newer : Crew) (out mid last : SinkTold)
     → AnsweredSoFar Is trees rest before covered old new out mid → rest ≡ batch ++ more → Writes (Is before batch) mid last (finished all) → AnswersMore batch new newer
     → AnsweredSoFar Is trees more (before + length batch) (covered && all) old newer out last
+unfolding batch_written
 batch_answered g Is parts trees rest batch more before covered all old new newer out mid last so_far next w answered = record {
   written = batch_written g Is parts trees rest batch more before covered out mid last so_far.written next all w;
   answered = more_and_more (so_far.written).done batch old new newer so_far.answered answered;

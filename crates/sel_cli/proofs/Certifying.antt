@@ -100,7 +100,7 @@ certified_joined g before xs ys between c d bytes more there p q =
 
 -- ---- a list by a function of the places
 
-from_places : {X : Type 0} → (ℕ → X) → ℕ → ℕ → List X
+abbrev from_places : {X : Type 0} → (ℕ → X) → ℕ → ℕ → List X
 from_places f a zero = []
 from_places f a (suc n) = f a ∷ from_places f (suc a) n
 
@@ -119,7 +119,7 @@ below_or i k = grind arith
 -- ---- each tree has a certificate
 
 module _ (g : Grammar) (exist : ItemsExist) (lawful : IsLawful g) (accepted : IsAccepted g) where
-  width : ℕ
+  abbrev width : ℕ
   width = length g.nonterminals
 
   no_rule : (n : ℕ) (s : PlainTree) → width ≤ n → HasNone g n s
@@ -151,10 +151,10 @@ module _ (g : Grammar) (exist : ItemsExist) (lawful : IsLawful g) (accepted : Is
       (small_more (size t * most_nonterminals * greatest_cost) (most_nodes * most_nonterminals * greatest_cost) (cost g d) small (omega arith)))
 
   module _ (tree : Tree) (t : PlainTree) (spelled : IsPostorderOf tree t) (few : size t ≤ most_nodes) where
-    count : ℕ
+    abbrev count : ℕ
     count = length tree.nodes
 
-    node_tree : (i : ℕ) → (i < count) ⊎ (count ≤ i) → PlainTree
+    abbrev node_tree : (i : ℕ) → (i < count) ⊎ (count ≤ i) → PlainTree
     node_tree i (inl lt) = (tree_at tree.nodes t i spelled lt).0
     node_tree i (inr far) = t
 
@@ -166,13 +166,13 @@ module _ (g : Grammar) (exist : ItemsExist) (lawful : IsLawful g) (accepted : Is
     tree_few i (inl lt) = let less = ((tree_at tree.nodes t i spelled lt).1).1 in omega (arith, less, few)
     tree_few i (inr far) = few
 
-    cost_by : ℕ → ℕ → Option Cost
+    abbrev cost_by : ℕ → ℕ → Option Cost
     cost_by i n = (best_of n (node_tree i (below_or i count))).0
 
-    row_by : ℕ → List (Option Cost)
+    abbrev row_by : ℕ → List (Option Cost)
     row_by i = from_places (cost_by i) 0 width
 
-    costs : NodeCosts
+    abbrev costs : NodeCosts
     costs = from_places row_by 0 count
 
     row_is : (i : ℕ) → i < count → slice_get costs i ≡ Some (row_by i)

@@ -1,6 +1,7 @@
 pub mod Batches
 pub mod Tellings
 pub mod Certifying
+pub mod Checking
 pub mod Endings
 pub mod Going
 pub mod Writing

@@ -302,6 +302,11 @@ serves_as wanted shelf shelf_now out out_now name told status ended report repor
 
 -- ---- one part after another
 
+-- what was accepted by a shelf is accepted by one that holds the same
+pub accepts_later : (wanted : Option Task) (task : Task) (grammar : Grammar) (forest : Forest) (before now : ShelfTold) → now.held ≡ before.held
+    → AcceptsForest MayBe (request_of wanted before) task grammar forest → AcceptsForest MayBe (request_of wanted now) task grammar forest
+accepts_later wanted task grammar forest before now same a = subst (λ h. AcceptsForest MayBe (record { wanted = wanted; held = h }) task grammar forest) (sym same) a
+
 -- what stopped by the reads of the later part stopped so by those of both
 stops_later : (wanted : Option Task) (before middle now : ShelfTold) (name : List ℕ) (status : Status) → middle.held ≡ before.held → middle.faults ≡ before.faults
     → StopsFor (request_of wanted middle) middle now name status → StopsFor (request_of wanted before) before now name status

@@ -1,5 +1,5 @@
 -- Answers, and texts with the names of registers, are told part by part.
-use Rattle.std.proofs.Common.{◌≡◌, ℕ, ◌+◌, ◌≤◌, Bool, ◌&&◌, List, [], ◌∷◌, ◌++◌, length, map, refl, sym, ap, subst, ◌∙◌, arith}
+use Rattle.std.proofs.Common.{◌≡◌, ◌≢◌, ℕ, ◌+◌, ◌≤◌, inl, Bool, ◌&&◌, List, [], ◌∷◌, ◌++◌, length, map, refl, sym, ap, subst, ◌∙◌, arith}
 use Rattle.std.specs.List.{list_all}
 use Rattle.std.proofs.lemmas.List.{length-map}
 use Rattle.std.proofs.lemmas.List.Folds.{list_all-append}
@@ -28,7 +28,13 @@ use Rattle.sel_answers.proofs.Naming.{named-append, named-length, named_text-app
 use Rattle.sel_answers.proofs.TreeLists.{valid_head, valid_tail}
 use Rattle.sel_cli.specs.declared.jobs.each_tree.Telling.{Telling}
 use Rattle.sel_cli.specs.declared.jobs.each_tree.Telling.TheVariants as tells
-use Rattle.sel_cli.specs.Parts.{AreTold, HasNames}
+use Rattle.sel_cli.specs.declared.jobs.reported.Reported.{Reported}
+use Rattle.sel_cli.specs.declared.status.Status.{Status}
+use Rattle.sel_cli.specs.declared.status.Status.TheVariants.{Done, Usage, ReadFault, TooBig, BadGrammar, BadForest, WriteFault, NoMemory, Uncovered, BadCertificate}
+use Rattle.sel_words.specs.declared.settings.Settings.{Settings}
+use Rattle.sel_base.specs.Puts.{SinkTold}
+use Rattle.sel_cli.specs.Parts.{AreTold, HasNames, Stops, TellsJob}
+use Rattle.sel_cli.specs.Reporting.{IsUnfinished, nothing_reported}
 use Rattle.sel_cli.proofs.Batches.{HasParts}
 
 module _ (g : Grammar) (exist : AnswerExists) (lawful : IsLawful g) (accepted : IsAccepted g) where
@@ -104,3 +110,22 @@ module _ (g : Grammar) (exist : AnswerExists) (lawful : IsLawful g) (accepted : 
   told_parts more (tells.Answer goal) names = answered_parts goal
   told_parts more (tells.Named names) (some, few) =
       named_parts (map (λ name. name.now) names.now) more (subst (λ n. 1 ≤ n) (sym (length-map names.now (λ name. name.now))) some)
+
+-- ---- the writing stopped
+
+unfinished : (status : Status) → status ≢ Done → status ≢ Uncovered → IsUnfinished status
+unfinished Done nd nu = absurd (nd refl)
+unfinished Uncovered nd nu = absurd (nu refl)
+unfinished Usage nd nu = tt
+unfinished ReadFault nd nu = tt
+unfinished TooBig nd nu = tt
+unfinished (BadGrammar fault) nd nu = tt
+unfinished (BadForest fault) nd nu = tt
+unfinished (BadCertificate fault) nd nu = tt
+unfinished WriteFault nd nu = tt
+unfinished NoMemory nd nu = tt
+
+pub stop_told : (settings : Settings) (g : Grammar) (telling : Telling) (trees : List Tree) (out now : SinkTold) (status : Status) (r : Reported) → Stops (AreTold g telling 0 trees) out now status
+    → r ≡ record { status = status; report = nothing_reported } → TellsJob settings g telling trees out now r.status r.report
+stop_told settings g telling trees out now status r s is =
+    subst (λ (x : Reported). TellsJob settings g telling trees out now x.status x.report) (sym is) (record { writes = s.writes; reports = inl (refl, unfinished status s.not_done s.not_uncovered) })

@@ -25,7 +25,17 @@ returns-in-Make-clause-served g c =
     serves_as (Some task) _ _ _ _ c.args.command.grammar.now _ c.make.result.status _ c.make.result.report _ c.of.ensures.name c.of.ensures.status c.of.ensures.report
     (job_serves c.in-Ok.accepted task _ c.in-Ok.accepted.grammar c.args.command.grammar.now _ _ _ _ c.make.result.status c.make.result.report (ap (job_for c.args.command.settings) c.in-Make.is) refl refl c.in-Ok.ensures.accepted c.in-Ok.ensures.reads c.make.ensures)
 
+pub returns-in-OverForest-clause-served : goal.returns-in-OverForest-clause-served
+returns-in-OverForest-clause-served g c =
+    let task = task_for c.args.command in
+    then_serves c.in-Ok.accepted (Some task) (grammar_name task) _ _ _ _ _ _ c.serve_forest.result.status c.serve_forest.result.report c.in-Ok.ensures.reads c.serve_forest.ensures.served
+
+pub returns-in-Regs-clause-served : goal.returns-in-Regs-clause-served
+returns-in-Regs-clause-served g c =
+    let task = task_for c.args.command in
+    then_serves c.in-Ok.accepted (Some task) (grammar_name task) _ _ _ _ _ _ c.serve_registers.result.status c.serve_registers.result.report c.in-Ok.ensures.reads c.serve_registers.ensures.served
+
 pub returns-clause-served : goal.returns-clause-served
 returns-clause-served g c =
     let task = task_for c.args.command in
-    then_serves c.in-Ok.accepted (Some task) (grammar_name task) _ _ _ _ _ _ c.serve_forest.result.status c.serve_forest.result.report c.in-Ok.ensures.reads c.serve_forest.ensures.served
+    then_serves c.in-Ok.accepted (Some task) (grammar_name task) _ _ _ _ _ _ c.serve_check.result.status c.serve_check.result.report c.in-Ok.ensures.reads c.serve_check.ensures.served

@@ -1,4 +1,4 @@
-use Rattle.std.proofs.Common.{◌≡◌, ◌<◌, ◌+◌, ◌^◌, Result, Ok, Err, length, subst, sym, arith, IfOk, refl}
+use Rattle.std.proofs.Common.{◌≡◌, ◌<◌, ◌+◌, ◌^◌, Bool, Result, Ok, Err, length, subst, sym, ap, ◌∙◌, arith, IfOk, refl}
 use Rattle.std.specs.List.{list_all}
 use Rattle.std.specs.Prelude.{List, ℕ}
 use Rattle.sel_grammar.specs.declared.grammar.Grammar.{Grammar}
@@ -29,8 +29,18 @@ as_told : {E : Type 0} (g : Grammar) (telling known : Telling) (before : ℕ) (b
     → IfOk result (λ output. AreTold g known before batch output.covered output.text.items) → IfOk result (λ output. AreTold g telling before batch output.covered output.text.items)
 as_told g telling known before batch result is h = subst (λ t. IfOk result (λ output. AreTold g t before batch output.covered output.text.items)) (sym is) h
 
-asked : (g : Grammar) (telling known : Telling) (batch : List Tree) (answers : List Answer) → telling ≡ known → AreAnswersOf g (goal_of telling) batch answers → AreAnswersOf g (goal_of known) batch answers
-asked g telling known batch answers is h = subst (λ t. AreAnswersOf g (goal_of t) batch answers) is h
+pub answers_output-requires : goal.answers_output-requires
+answers_output-requires c =
+    let count = answers_count c.args.grammar.now (goal_of c.args.telling) c.args.batch.now c.args.answers.now c.requires.answers in
+    let few = c.requires.few in
+    record { few = omega (arith, count, few) }
 
-names_of : (telling known : Telling) → telling ≡ known → HasNames telling → HasNames known
-names_of telling known is h = subst HasNames is h
+pub returns-in-Answer : goal.returns-in-Answer
+returns-in-Answer c =
+    as_told c.args.grammar.now c.args.telling (tells.Answer c.in-Answer.field-0) c.args.before c.args.batch.now c.answers_output.result c.in-Answer.is
+    (answered c.args.grammar.now c.in-Answer.field-0 c.args.before c.args.batch.now c.args.answers.now c.has_second_costs-second.result c.answers_output.result c.has_second_costs-second.ensures c.requires.trees
+    (subst (λ t. AreAnswersOf c.args.grammar.now (goal_of t) c.args.batch.now c.args.answers.now) c.in-Answer.is c.requires.answers) c.answers_output.ensures.text c.answers_output.ensures.covered)
+
+pub named_output-requires-clause-answers : goal.named_output-requires-clause-answers
+named_output-requires-clause-answers c =
+    answers_of c.args.grammar.now goals.Cover c.args.batch.now c.args.answers.now c.requires.trees (subst (λ t. AreAnswersOf c.args.grammar.now (goal_of t) c.args.batch.now c.args.answers.now) c.in-Named.is c.requires.answers)

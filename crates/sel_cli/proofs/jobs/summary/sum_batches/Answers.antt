@@ -1,4 +1,5 @@
 use Rattle.std.proofs.Common.{◌≡◌, length, arith, [], refl, sym, subst}
+use Rattle.sel_count.specs.Things.{AreValid}
 use Rattle.sel_crew.specs.Crews.{grammar_of}
 use Rattle.sel_cli.proofs.Batches.{none_more, cut_at, valid_batch, none_left}
 use Rattle.sel_cli.proofs.Summaries.{batch_summed, few_summed, all_sum_answered}
@@ -7,8 +8,9 @@ use Rattle.sel_cli.proofs.jobs.summary.sum_batches.Goals as goal
 pub sum_batch-requires-clause-trees : goal.sum_batch-requires-clause-trees
 sum_batch-requires-clause-trees g c = λ κs lives.
     let so_far = c.batches.invariant.so_far in
-    valid_batch (grammar_of c.args.crew.now) (grammar_of c.batches.crew) c.args.trees.now so_far.done c.batches.rest.now c.split_at.result.0.now c.split_at.result.1.now c.requires.trees so_far.cut
-    (cut_at _ c.batches.rest.now c.split_at.result.0.now c.split_at.result.1.now c.split_at.ensures.front c.split_at.ensures.back) c.batches.invariant.same
+    subst (λ x. AreValid x c.split_at.result.0.now) (sym c.batches.invariant.same)
+    (valid_batch (grammar_of c.args.crew.now) c.args.trees.now so_far.done c.batches.rest.now c.split_at.result.0.now c.split_at.result.1.now c.requires.trees so_far.cut
+    (cut_at _ c.batches.rest.now c.split_at.result.0.now c.split_at.result.1.now c.split_at.ensures.front c.split_at.ensures.back))
 
 pub sum_batch-requires-clause-few : goal.sum_batch-requires-clause-few
 sum_batch-requires-clause-few g c = λ κs lives.
