@@ -1,5 +1,6 @@
 pub mod Slotted
 pub mod Placing
+pub mod Unders
 pub mod Emitting
 pub mod Adding
 pub mod Sheets

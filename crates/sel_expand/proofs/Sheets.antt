@@ -74,8 +74,7 @@ pub cut_long : (b : Bool) (out target : Text) → IsCut b out target → 1048576
 cut_long b out target c = let l = c.over.long in let e : length out + length c.more ≡ length target = sym (length-append out c.more) ∙ ap length c.front in omega arith
 
 -- a name with one digit is put
-pub named_digit : (old one two : List ℕ) (number digit : ℕ) → number < 10 → one ≡ old ++ 116 ∷ [] → two ≡ one ++ digit ∷ [] → digit ≡ 48 + number → map Byte two ≡ map Byte old ++ map Byte (text_bytes (Temporary number ∷ []))
-named_digit old one two number digit h e f d =
+pub named_digit : (old new : List ℕ) (number digit : ℕ) → number < 10 → new ≡ old ++ (116 ∷ digit ∷ []) → digit ≡ 48 + number → map Byte new ≡ map Byte old ++ map Byte (text_bytes (Temporary number ∷ []))
+named_digit old new number digit h e d =
     let same : 116 ∷ digit ∷ [] ≡ text_bytes (Temporary number ∷ []) = ap (λ x. 116 ∷ x) (ap (λ x. x ∷ []) d ∙ sym (decimal_digit number h)) ∙ append-none (116 ∷ decimal number) in
-    let all : two ≡ old ++ (116 ∷ digit ∷ []) = f ∙ ap (λ x. x ++ digit ∷ []) e ∙ append_assoc old (116 ∷ []) (digit ∷ []) in
-    ap (map Byte) all ∙ map-append Byte old (116 ∷ digit ∷ []) ∙ ap (λ x. map Byte old ++ map Byte x) same
+    ap (map Byte) e ∙ map-append Byte old (116 ∷ digit ∷ []) ∙ ap (λ x. map Byte old ++ map Byte x) same

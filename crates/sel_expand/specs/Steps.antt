@@ -8,12 +8,27 @@ use Rattle.sel_forest.specs.declared.forest.Node.{Node}
 use Rattle.sel_forest.specs.declared.walk.Goal.{Goal}
 use Rattle.sel_forest.specs.Places.{goals}
 use Rattle.sel_forest.specs.Goals.{DerivesAt}
+use Rattle.sel_grammar.specs.declared.grammar.Pattern.{Pattern, Leaf}
 use Rattle.sel_expand.specs.declared.places.Step.{Step}
+use Rattle.sel_expand.specs.declared.places.Under.{Under}
+use Rattle.sel_expand.specs.declared.places.Under.TheVariants.{Nothing, One, Two, Deeper}
 
 -- the goals of a rule's kids at a node
 abbrev pub goals_at : Option Rule → List Node → ℕ → List Goal
 goals_at None nodes i = []
 goals_at (Some rule) nodes i = goals rule.pattern nodes i
+
+-- the nonterminal that a pattern is, where it is one
+abbrev pub leaf_of : Pattern → Option ℕ
+leaf_of (Leaf n) = Some n
+leaf_of _ = None
+
+-- these goals are told, or not looked for
+abbrev pub IsUnder : Under → List Goal → Type 0
+IsUnder Nothing gs = gs ≡ []
+IsUnder (One goal) gs = gs ≡ goal ∷ []
+IsUnder (Two first second) gs = gs ≡ first ∷ second ∷ []
+IsUnder Deeper gs = Unit {0}
 
 -- a rule at a node
 abbrev pub step_at : Grammar → List Node → ℕ → ℕ → Step

@@ -1,14 +1,14 @@
 //! The rules of a cover, placed on the nodes of its tree.
-ghost use Rattle.std.specs.Prelude.{◌≡◌, ◌++◌, ◌∷◌, ◌+◌, ◌-◌, ◌≤◌, [], map, reverse, length, drop, IfOk};
+ghost use Rattle.std.specs.Prelude.{◌≡◌, ◌++◌, ◌∷◌, ◌+◌, ◌-◌, ◌≤◌, [], map, reverse, length, drop, slice_get, IfOk};
 ghost use Rattle.sel_grammar.specs.Fits.{rule_at};
-ghost use Rattle.sel_forest.specs.Places.{goals as goals_under};
-ghost use Rattle.sel_expand.specs.Steps.{goals_at, step_at, HasCover};
+ghost use Rattle.sel_forest.specs.Places.{goals as goals_under, of_node};
+ghost use Rattle.sel_expand.specs.Steps.{goals_at, step_at, leaf_of, IsUnder, HasCover};
 ghost use Rattle.sel_expand.specs.Values.{IsAdded, AreListed};
 
 use crate::reductions::{Reduction, Reductions};
 use crate::templates::{kind_of, next_by, parts_of};
 use sel_base::NoMemory;
-use sel_forest::{Goal, Node, push_goals, rule_of};
+use sel_forest::{Goal, Node, node_at, push_goals, rule_of};
 use sel_grammar::{Grammar, Pattern};
 
 /// A rule at a node, whose kids were emitted before.
@@ -35,6 +35,91 @@ fn push_kids(goals: &[Goal], tasks: &mut Vec<Task>) -> Result<(), NoMemory>
     Ok(())
 }
 
+/// The goals under a pattern, where none of its operators stands below another.
+#[derive(Clone, Copy, Debug, Drop)]
+pub enum Under {
+    Nothing,
+    One(Goal),
+    Two(Goal, Goal),
+    Deeper,
+}
+
+fn leaf_of(pattern: &Pattern) -> Option<u16>
+    ensures { result ≡ leaf_of pattern.now }
+{
+    match pattern {
+        Pattern::Leaf(nonterminal) => Some(*nonterminal),
+        _ => None,
+    }
+}
+
+/// The goal under an operator's only kid.
+fn under_one(below: &Pattern, nodes: &[Node], at: usize) -> Under
+    ensures { IsUnder result (of_node (slice_get nodes.now at) (λ node. goals_under below.now nodes.now node.left)) }
+{
+    let Some(nonterminal) = leaf_of(below) else {
+        return Under::Deeper;
+    };
+    match node_at(nodes, at) {
+        Some(node) => Under::One(Goal {
+            at: node.left as usize,
+            nonterminal,
+        }),
+        None => Under::Nothing,
+    }
+}
+
+/// The goals under an operator's two kids.
+fn under_both(left: &Pattern, right: &Pattern, nodes: &[Node], at: usize) -> Under
+    ensures { IsUnder result (of_node (slice_get nodes.now at) (λ node. goals_under left.now nodes.now node.left ++ goals_under right.now nodes.now node.right)) }
+{
+    let Some(first) = leaf_of(left) else {
+        return Under::Deeper;
+    };
+    let Some(second) = leaf_of(right) else {
+        return Under::Deeper;
+    };
+    match node_at(nodes, at) {
+        Some(node) => Under::Two(
+            Goal {
+                at: node.left as usize,
+                nonterminal: first,
+            },
+            Goal {
+                at: node.right as usize,
+                nonterminal: second,
+            },
+        ),
+        None => Under::Nothing,
+    }
+}
+
+fn under_pattern(pattern: &Pattern, nodes: &[Node], at: usize) -> Under
+    ensures { IsUnder result (goals_under pattern.now nodes.now at) }
+{
+    match pattern {
+        Pattern::Leaf(nonterminal) => Under::One(Goal {
+            at,
+            nonterminal: *nonterminal,
+        }),
+        Pattern::Nullary(_) => Under::Nothing,
+        Pattern::Unary(_, below) => under_one(below.get(), nodes, at),
+        Pattern::Binary(_, left, right) => under_both(left.get(), right.get(), nodes, at),
+    }
+}
+
+/// Puts a rule with so many kids on the stack.
+fn push_step(number: u16, at: usize, kids: usize, tasks: &mut Vec<Task>) -> Result<(), NoMemory>
+    ensures { IfOk result (λ _. tasks.new.items ≡ tasks.old.items ++ Task.Emit (record { rule = number; at = at; kids = kids }) ∷ []) }
+{
+    tasks.push(Task::Emit(Step {
+        rule: number,
+        at,
+        kids,
+    }))?;
+    Ok(())
+}
+
 /// Puts the rule on the stack, and above it the goals under its pattern, the first on top.
 fn spread_pattern(
     pattern: &Pattern,
@@ -47,35 +132,23 @@ fn spread_pattern(
     ensures { IfOk result (λ _. tasks.new.items
         ≡ (tasks.old.items ++ Task.Emit (record { rule = number; at = at; kids = length (goals_under pattern.now nodes.now at) }) ∷ []) ++ map Task.Derive (reverse (goals_under pattern.now nodes.now at))) }
 {
-    match pattern {
-        Pattern::Leaf(nonterminal) => {
-            tasks.push(Task::Emit(Step {
-                rule: number,
-                at,
-                kids: 1,
-            }))?;
-            tasks.push(Task::Derive(Goal {
-                at,
-                nonterminal: *nonterminal,
-            }))?;
+    match under_pattern(pattern, nodes, at) {
+        Under::Nothing => push_step(number, at, 0, tasks),
+        Under::One(goal) => {
+            push_step(number, at, 1, tasks)?;
+            tasks.push(Task::Derive(goal))?;
             Ok(())
         }
-        Pattern::Nullary(_) => {
-            tasks.push(Task::Emit(Step {
-                rule: number,
-                at,
-                kids: 0,
-            }))?;
+        Under::Two(first, second) => {
+            push_step(number, at, 2, tasks)?;
+            tasks.push(Task::Derive(second))?;
+            tasks.push(Task::Derive(first))?;
             Ok(())
         }
-        _ => {
+        Under::Deeper => {
             goals.clear();
             push_goals(pattern, nodes, at, goals)?;
-            tasks.push(Task::Emit(Step {
-                rule: number,
-                at,
-                kids: goals.len(),
-            }))?;
+            push_step(number, at, goals.len(), tasks)?;
             push_kids(goals.as_slice(), tasks)
         }
     }
@@ -95,14 +168,7 @@ fn spread(
 {
     match rule_of(grammar, number) {
         Some(rule) => spread_pattern(&rule.pattern, nodes, goal.at, number, goals, tasks),
-        None => {
-            tasks.push(Task::Emit(Step {
-                rule: number,
-                at: goal.at,
-                kids: 0,
-            }))?;
-            Ok(())
-        }
+        None => push_step(number, goal.at, 0, tasks),
     }
 }
 

@@ -1,5 +1,5 @@
 //! The reductions of a cover: its rules with their nodes and kids.
-ghost use Rattle.std.specs.Prelude.{◌≡◌, ◌≤◌, ◌<◌, ◌^◌, ◌++◌, ◌∷◌, [], length, slice_get, slice_range, OnOk, OnErr};
+ghost use Rattle.std.specs.Prelude.{◌≡◌, ◌≤◌, ◌<◌, ◌^◌, ◌++◌, ◌∷◌, [], ℕ, List, length, slice_get, slice_range, OnOk, OnErr};
 ghost use Rattle.sel_expand.specs.Reductions.{own_of, kids_of};
 
 use crate::templates::Kind;
@@ -69,15 +69,20 @@ fn part_of(kids: &[usize], start: usize, end: usize) -> &[usize]
     &kids[start..end]
 }
 
-/// Puts more kids behind the others. Mostly they are none or one.
+/// Puts more kids behind the others. Mostly they are two at most.
 fn put_kids(kids: &mut Vec<usize>, more: &[usize]) -> Result<(), NoMemory>
     ensures ok { OnOk result (kids.new.items ≡ kids.old.items ++ more.now) }
-    ensures err { OnErr result (kids.new.items ≡ kids.old.items) }
+    ensures err { OnErr result ((some : List ℕ) × (kids.new.items ≡ kids.old.items ++ some)) }
 {
     match more {
         [] => Ok(()),
         [kid] => {
             kids.push(*kid)?;
+            Ok(())
+        }
+        [first, second] => {
+            kids.push(*first)?;
+            kids.push(*second)?;
             Ok(())
         }
         _ => {

@@ -66,11 +66,11 @@ impl Sheet for Vec<u8> {
     }
 
     fn put_temporary(&mut self, number: u64) -> Result<(), NoMemory> {
-        self.push(b't')?;
         if number < 10 {
-            self.push(b'0' + number as u8)?;
+            self.extend_from_slice(&[b't', b'0' + number as u8])?;
             return Ok(());
         }
+        self.push(b't')?;
         let mut buffer = Buffer::new();
         self.extend_from_slice(buffer.format(number).as_bytes())?;
         Ok(())
