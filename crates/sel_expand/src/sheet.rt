@@ -60,9 +60,26 @@ impl Sheet for Vec<u8> {
         self.as_slice().len() as u64 > LONGEST_TEXT
     }
 
+    // Most texts between the kids of a template are short, and put without a call.
     fn put_bytes(&mut self, bytes: &[u8]) -> Result<(), NoMemory> {
-        self.extend_from_slice(bytes)?;
-        Ok(())
+        match bytes {
+            [first] => {
+                self.push(*first)?;
+                Ok(())
+            }
+            [first, second] => {
+                self.extend_from_slice(&[*first, *second])?;
+                Ok(())
+            }
+            [first, second, third, fourth] => {
+                self.extend_from_slice(&[*first, *second, *third, *fourth])?;
+                Ok(())
+            }
+            _ => {
+                self.extend_from_slice(bytes)?;
+                Ok(())
+            }
+        }
     }
 
     fn put_temporary(&mut self, number: u64) -> Result<(), NoMemory> {
