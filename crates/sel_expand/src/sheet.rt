@@ -61,6 +61,7 @@ impl Sheet for Vec<u8> {
     }
 
     // Most texts between the kids of a template are short, and put without a call.
+    #[inline(always)]
     fn put_bytes(&mut self, bytes: &[u8]) -> Result<(), NoMemory> {
         match bytes {
             [first] => {
@@ -82,6 +83,7 @@ impl Sheet for Vec<u8> {
         }
     }
 
+    #[inline(always)]
     fn put_temporary(&mut self, number: u64) -> Result<(), NoMemory> {
         if number < 10 {
             self.extend_from_slice(&[b't', b'0' + number as u8])?;
