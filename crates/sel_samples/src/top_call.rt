@@ -41,10 +41,7 @@ fn is_told(status: &Status, alloc: Global, err: &[u8]) -> Result<bool, NoMemory>
             )?
         }
         Status::BadCertificate(fault) => {
-            format!(in alloc;
-                ":{}: certificate fault {} ",
-                fault.line, fault.kind
-            )?
+            format!(in alloc; ":{}: certificate fault {} ", fault.line, fault.kind)?
         }
         _ => return Ok(true),
     };
